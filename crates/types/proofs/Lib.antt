@@ -1,0 +1,14 @@
+-- Laws of the specification's definitions, for the proofs of this crate and of those above it.
+pub mod Tests
+pub mod Chain
+pub mod Arms
+pub mod NumberLaws
+pub mod Signed
+pub mod BitLaws
+pub mod FloatLaws
+pub mod ValueLaws
+pub mod StringLaws
+pub mod Splice
+pub mod WriterLaws
+pub mod Standing
+pub mod RoundTrip

@@ -1,0 +1,13 @@
+-- The specification of the wire types.
+pub mod Answer
+pub mod Octets
+pub mod Judgement
+pub mod Strings
+pub mod Floats
+pub mod Bits
+pub mod Lookup
+pub mod Values
+pub mod Memory
+pub mod Writers
+pub mod Records
+pub mod AnswerOf

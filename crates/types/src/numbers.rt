@@ -1,0 +1,213 @@
+// Integers of 8, 16, 32 and 64 bits: 0-9-1, 4.2.5.1. One loop serves every width.
+ghost use mathlib.Core.Path.{_≡_};
+ghost use Prim.Native.Nat.{_+_, _≤_};
+ghost use lib.ListN.{length};
+ghost use Rattle.types.specs.Octets.{numberAt, uintAt, twos};
+ghost use Rattle.types.specs.AnswerOf.{answerOfNumber, answerOfU8, answerOfI8, answerOfU16, answerOfI16, answerOfU32, answerOfI32, answerOfU64, answerOfI64};
+use crate::Cursor;
+use crate::ReadI8;
+use crate::ReadI16;
+use crate::ReadI32;
+use crate::ReadI64;
+use crate::ReadU8;
+use crate::ReadU16;
+use crate::ReadU32;
+use crate::ReadU64;
+use crate::WireError;
+
+// A number of some octets, and the position past it.
+enum Number {
+    Value(u64, usize),
+    Refused(WireError),
+}
+
+// The number of k octets at a place where they all are.
+fn number_of(s: &[u8], at: usize, k: usize) -> u64
+    requires { ⌜ (k ≤ 8) × (at + k ≤ length (now s)) ⌝ }
+    ensures { λ r. ⌜ r ≡ numberAt k (now (s .entry)) at ⌝ }
+{
+    let mut n: u64 = 0;
+    let mut i = 0;
+    while i < k {
+        let b = s[at + i];
+        n = n * 256 + b as u64;
+        i += 1;
+    }
+    n
+}
+
+// The number of k octets at a position. No sum wraps: the position may be any number.
+fn read_number(s: &[u8], at: usize, k: usize) -> Number
+    requires { ⌜ k ≤ 8 ⌝ }
+    ensures { λ r. ⌜ answerOfNumber r ≡ uintAt k (now (s .entry)) at ⌝ }
+{
+    if s.len() < at {
+        return Number::Refused(WireError::Truncated);
+    }
+    if s.len() - at < k {
+        return Number::Refused(WireError::Truncated);
+    }
+    Number::Value(number_of(s, at, k), at + k)
+}
+
+// The number whose two's complement is n.
+pub fn signed8(n: u8) -> i8
+    ensures { λ r. ⌜ twos 8 r ≡ n ⌝ }
+{
+    if n < 0x80 {
+        n as i8
+    } else {
+        -1 - (0xff - n) as i8
+    }
+}
+
+// The number whose two's complement is n.
+pub fn signed16(n: u16) -> i16
+    ensures { λ r. ⌜ twos 16 r ≡ n ⌝ }
+{
+    if n < 0x8000 {
+        n as i16
+    } else {
+        -1 - (0xffff - n) as i16
+    }
+}
+
+// The number whose two's complement is n.
+pub fn signed32(n: u32) -> i32
+    ensures { λ r. ⌜ twos 32 r ≡ n ⌝ }
+{
+    if n < 0x8000_0000 {
+        n as i32
+    } else {
+        -1 - (0xffff_ffff - n) as i32
+    }
+}
+
+// The number whose two's complement is n.
+pub fn signed64(n: u64) -> i64
+    ensures { λ r. ⌜ twos 64 r ≡ n ⌝ }
+{
+    if n < 0x8000_0000_0000_0000 {
+        n as i64
+    } else {
+        -1 - (0xffff_ffff_ffff_ffff - n) as i64
+    }
+}
+
+// The two's complement of z.
+pub fn unsigned8(z: i8) -> u8
+    ensures { λ r. ⌜ r ≡ twos 8 z ⌝ }
+{
+    if z < 0 {
+        0xff - (-1 - z) as u8
+    } else {
+        z as u8
+    }
+}
+
+// The two's complement of z.
+pub fn unsigned16(z: i16) -> u16
+    ensures { λ r. ⌜ r ≡ twos 16 z ⌝ }
+{
+    if z < 0 {
+        0xffff - (-1 - z) as u16
+    } else {
+        z as u16
+    }
+}
+
+// The two's complement of z.
+pub fn unsigned32(z: i32) -> u32
+    ensures { λ r. ⌜ r ≡ twos 32 z ⌝ }
+{
+    if z < 0 {
+        0xffff_ffff - (-1 - z) as u32
+    } else {
+        z as u32
+    }
+}
+
+// The two's complement of z.
+pub fn unsigned64(z: i64) -> u64
+    ensures { λ r. ⌜ r ≡ twos 64 z ⌝ }
+{
+    if z < 0 {
+        0xffff_ffff_ffff_ffff - (-1 - z) as u64
+    } else {
+        z as u64
+    }
+}
+
+impl Cursor {
+    pub fn u8(self, s: &[u8]) -> ReadU8
+        ensures { λ r. ⌜ answerOfU8 r ≡ uintAt 1 (now (s .entry)) (self .at) ⌝ }
+    {
+        match read_number(s, self.at, 1) {
+            Number::Value(n, at) => ReadU8::Value(n as u8, Cursor { at }),
+            Number::Refused(e) => ReadU8::Refused(e),
+        }
+    }
+
+    pub fn u16(self, s: &[u8]) -> ReadU16
+        ensures { λ r. ⌜ answerOfU16 r ≡ uintAt 2 (now (s .entry)) (self .at) ⌝ }
+    {
+        match read_number(s, self.at, 2) {
+            Number::Value(n, at) => ReadU16::Value(n as u16, Cursor { at }),
+            Number::Refused(e) => ReadU16::Refused(e),
+        }
+    }
+
+    pub fn u32(self, s: &[u8]) -> ReadU32
+        ensures { λ r. ⌜ answerOfU32 r ≡ uintAt 4 (now (s .entry)) (self .at) ⌝ }
+    {
+        match read_number(s, self.at, 4) {
+            Number::Value(n, at) => ReadU32::Value(n as u32, Cursor { at }),
+            Number::Refused(e) => ReadU32::Refused(e),
+        }
+    }
+
+    pub fn u64(self, s: &[u8]) -> ReadU64
+        ensures { λ r. ⌜ answerOfU64 r ≡ uintAt 8 (now (s .entry)) (self .at) ⌝ }
+    {
+        match read_number(s, self.at, 8) {
+            Number::Value(n, at) => ReadU64::Value(n, Cursor { at }),
+            Number::Refused(e) => ReadU64::Refused(e),
+        }
+    }
+
+    pub fn i8(self, s: &[u8]) -> ReadI8
+        ensures { λ r. ⌜ answerOfI8 r ≡ uintAt 1 (now (s .entry)) (self .at) ⌝ }
+    {
+        match self.u8(s) {
+            ReadU8::Value(n, next) => ReadI8::Value(signed8(n), next),
+            ReadU8::Refused(e) => ReadI8::Refused(e),
+        }
+    }
+
+    pub fn i16(self, s: &[u8]) -> ReadI16
+        ensures { λ r. ⌜ answerOfI16 r ≡ uintAt 2 (now (s .entry)) (self .at) ⌝ }
+    {
+        match self.u16(s) {
+            ReadU16::Value(n, next) => ReadI16::Value(signed16(n), next),
+            ReadU16::Refused(e) => ReadI16::Refused(e),
+        }
+    }
+
+    pub fn i32(self, s: &[u8]) -> ReadI32
+        ensures { λ r. ⌜ answerOfI32 r ≡ uintAt 4 (now (s .entry)) (self .at) ⌝ }
+    {
+        match self.u32(s) {
+            ReadU32::Value(n, next) => ReadI32::Value(signed32(n), next),
+            ReadU32::Refused(e) => ReadI32::Refused(e),
+        }
+    }
+
+    pub fn i64(self, s: &[u8]) -> ReadI64
+        ensures { λ r. ⌜ answerOfI64 r ≡ uintAt 8 (now (s .entry)) (self .at) ⌝ }
+    {
+        match self.u64(s) {
+            ReadU64::Value(n, next) => ReadI64::Value(signed64(n), next),
+            ReadU64::Refused(e) => ReadI64::Refused(e),
+        }
+    }
+}

@@ -1,0 +1,5 @@
+-- The specification of UTF-8, from the grammar of RFC 3629, section 4.
+pub mod Choice
+pub mod Utf8
+pub mod AnswerOf
+mod Vectors

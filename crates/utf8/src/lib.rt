@@ -1,0 +1,70 @@
+// The UTF-8 check of RFC 3629.
+ghost use mathlib.Core.Path.{_≡_};
+ghost use Rattle.utf8.specs.Utf8.{fault};
+ghost use Rattle.utf8.specs.AnswerOf.{answerOfLead, answerOfScan, followers};
+
+// What a first octet says: how many octets follow, and the limits of the second; or that it begins no character.
+pub enum Lead {
+    More(usize, u8, u8),
+    Never,
+}
+
+// All octets are characters, or the place of the first ill-formed one.
+pub enum Scan {
+    WellFormed,
+    IllFormed(usize),
+}
+
+fn lead_of(b: u8) -> Lead
+    ensures { λ r. ⌜ answerOfLead r ≡ followers b ⌝ }
+{
+    match b {
+        0x00..=0x7F => Lead::More(0, 0x80, 0xBF),
+        0xC2..=0xDF => Lead::More(1, 0x80, 0xBF),
+        0xE0 => Lead::More(2, 0xA0, 0xBF),
+        0xE1..=0xEC => Lead::More(2, 0x80, 0xBF),
+        0xED => Lead::More(2, 0x80, 0x9F),
+        0xEE..=0xEF => Lead::More(2, 0x80, 0xBF),
+        0xF0 => Lead::More(3, 0x90, 0xBF),
+        0xF1..=0xF3 => Lead::More(3, 0x80, 0xBF),
+        0xF4 => Lead::More(3, 0x80, 0x8F),
+        _ => Lead::Never,
+    }
+}
+
+// Ends inside a character as soon as an octet cannot continue it.
+pub fn scan_utf8(s: &[u8]) -> Scan
+    ensures { λ r. ⌜ answerOfScan r ≡ fault (now (s .entry)) ⌝ }
+{
+    let mut i = 0;
+    'scan: loop {
+        if s.len() <= i {
+            break 'scan Scan::WellFormed;
+        }
+        let start = i;
+        let b = s[i];
+        let Lead::More(more, second_low, second_high) = lead_of(b) else {
+            break 'scan Scan::IllFormed(start);
+        };
+        i += 1;
+        let mut left = more;
+        let mut low = second_low;
+        let mut high = second_high;
+        while 0 < left {
+            if s.len() <= i {
+                break 'scan Scan::IllFormed(start);
+            }
+            let c = s[i];
+            if c < low {
+                break 'scan Scan::IllFormed(start);
+            }
+            if high < c {
+                break 'scan Scan::IllFormed(start);
+            }
+            low = 0x80;
+            high = 0xBF;
+            left -= 1;
+            i += 1;
+        }
+    }
+}
