@@ -7,7 +7,7 @@ use Prim.Native.Nat.{ℕ, zero, suc, _+_, _*_, _^_, _/_, _%_, _≤_, _<_}
 use native.Mathlib.Omega.{arith}
 use native.Mathlib.Nat.{div-add-mod', add-assoc, add-zero, pow-suc}
 use lib.ListN.{length, take, drop, getD, length-append, length-drop}
-use lib.Seq.{drop-cons, length-take-le}
+use lib.Seq.{drop-cons, length-take-le, take-suc, getD-drop}
 use lib.Dec.{leb, ltb, eqb}
 use Rattle.utf8.specs.Utf8.{utf8}
 use Rattle.types.specs.Answer.{Answer, given, refused, truncated, shortStrTooLong, notUtf8, andThen, need}
@@ -16,9 +16,13 @@ use Rattle.types.specs.Judgement.{test}
 use Rattle.types.specs.Strings.{octetsOf, spanAt, longStrAt, shortStrAt, shortStr, longStr, judgeShortStr}
 use Rattle.types.specs.declared.Span.{Span}
 use Rattle.types.proofs.Tests.{leb-yes, leb-no, yes-leb}
-use Rattle.types.proofs.NumberLaws.{length-octets}
+use Rattle.types.proofs.NumberLaws.{Octets, length-octets}
 use Rattle.types.proofs.Standing.{Stands, Cut, stands-left, stands-right, stands-split, cut-split}
 use Rattle.types.proofs.Chain.{then-go, need-given, given-next, given-value, test-none}
+
+take-last : (k : ℕ) (s : List ℕ) (p : ℕ) → p + k < length s → take (suc k) (drop p s) ≡ take k (drop p s) ++ (getD s (p + k) 0 ∷ [])
+take-last k s p h =
+    take-suc (drop p s) k 0 (omega (arith, length-drop p s)) ∙ ap (λ (b : ℕ). take k (drop p s) ++ (b ∷ [])) (getD-drop p s k 0)
 
 -- the octet that stands at a place
 pub stands-octet : {s : List ℕ} {p : ℕ} (x : ℕ) → Stands s p (x ∷ []) → getD s p 0 ≡ x
@@ -38,6 +42,17 @@ number-value {s} {p} (suc k) n f h =
     let g : n < 256 ^ k * 256 = rw (pow-suc 256 k) at f in
     let l : n / 256 < 256 ^ k = omega arith in
     rw (number-value k (n / 256) l a, stands-octet (n % 256) b) (omega arith)
+
+-- and the octets of the number are the octets that stood there: the two are inverse to each other
+pub number-octets : (k : ℕ) (s : List ℕ) (p : ℕ) → Octets s → p + k ≤ length s → octets k (numberAt k s p) ≡ take k (drop p s)
+unfolding numberAt
+number-octets zero s p o h = refl
+number-octets (suc k) s p o h =
+    let n = numberAt k s p in
+    let b = getD s (p + k) 0 in
+    let q : (n * 256 + b) / 256 ≡ n = omega (arith, o (p + k)) in
+    let r : (n * 256 + b) % 256 ≡ b = omega (arith, o (p + k)) in
+    rw (q, r, number-octets k s p o (omega arith)) (sym (take-last k s p (omega arith)))
 
 pub number-here : {s : List ℕ} {p : ℕ} (k n : ℕ) → n < 256 ^ k → Stands s p (octets k n) → uintAt k s p ≡ given n (p + k)
 unfolding uintAt

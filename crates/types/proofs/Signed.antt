@@ -112,6 +112,10 @@ half w32 = refl
 half w64 = refl
 half w128 = refl
 
+pub twos-lt : (w : Width) (z : ℤ) → mag z < 2 ^ hbits w → twos (bits w) z < 2 ^ bits w
+twos-lt w (pos a) f = omega (arith, pow-bits w)
+twos-lt w (negsuc m) f = omega (arith, pow-bits w)
+
 pub signed-twos : (w : Width) (z : ℤ) → mag z < 2 ^ hbits w → signed (bits w) (twos (bits w) z) ≡ z
 signed-twos w (pos a) f = rw (half w, lt-ltb a (2 ^ hbits w) f)
 signed-twos w (negsuc m) f =

@@ -2,4 +2,4 @@
 pub mod Choice
 pub mod Utf8
 pub mod AnswerOf
-mod Vectors
+mod Examples

@@ -1,18 +1,19 @@
 // The UTF-8 check of RFC 3629.
 ghost use mathlib.Core.Path.{_≡_};
-ghost use Rattle.utf8.specs.Utf8.{fault};
-ghost use Rattle.utf8.specs.AnswerOf.{answerOfLead, answerOfScan, followers};
-
-// What a first octet says: how many octets follow, and the limits of the second; or that it begins no character.
-pub enum Lead {
-    More(usize, u8, u8),
-    Never,
-}
+ghost use mathlib.Core.Bool.{true};
+ghost use Rattle.utf8.specs.Utf8.{none, fault, followers};
+ghost use Rattle.utf8.specs.AnswerOf.{answerOfLead, answerOfScan};
 
 // All octets are characters, or the place of the first ill-formed one.
 pub enum Scan {
     WellFormed,
     IllFormed(usize),
+}
+
+// What a first octet says: how many octets follow, and the limits of the second; or that it begins no character.
+enum Lead {
+    More(usize, u8, u8),
+    Never,
 }
 
 fn lead_of(b: u8) -> Lead
@@ -32,8 +33,23 @@ fn lead_of(b: u8) -> Lead
     }
 }
 
-// Ends inside a character as soon as an octet cannot continue it.
-pub fn scan_utf8(s: &[u8]) -> Scan
+// Whether all octets are ASCII letters. The loop has no way out in its middle, so that it can be done many octets at a time.
+fn is_ascii(s: &[u8]) -> bool
+    ensures { λ r. ⌜ (r ≡ true → none ≡ fault (now (s .entry))) ⌝ }
+{
+    let mut ascii = true;
+    let mut i = 0;
+    while i < s.len() {
+        if 0x7F < s[i] {
+            ascii = false;
+        }
+        i += 1;
+    }
+    ascii
+}
+
+// Character by character. Ends inside one as soon as an octet cannot continue it.
+fn scan_characters(s: &[u8]) -> Scan
     ensures { λ r. ⌜ answerOfScan r ≡ fault (now (s .entry)) ⌝ }
 {
     let mut i = 0;
@@ -67,4 +83,14 @@ pub fn scan_utf8(s: &[u8]) -> Scan
             i += 1;
         }
     }
+}
+
+// The first ill-formed character, if there is one.
+pub fn scan_utf8(s: &[u8]) -> Scan
+    ensures { λ r. ⌜ answerOfScan r ≡ fault (now (s .entry)) ⌝ }
+{
+    if is_ascii(s) {
+        return Scan::WellFormed;
+    }
+    scan_characters(s)
 }

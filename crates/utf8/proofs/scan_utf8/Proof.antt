@@ -1,140 +1,19 @@
 -- `utf8::scan_utf8` meets its contract. Assumes nothing.
-use mathlib.Core.Path.{_≡_, refl, sym, ap, _∙_}
-use mathlib.Core.List.{[]}
-use Prim.Native.Nat.{_≤_, _<_, _-_, _+_}
-use native.Mathlib.Omega.{arith}
 use borrow.Author.Needs.{needs}
-use lib.ListN.{length, getD, drop}
-use Rattle.utf8.specs.Utf8.{fault, faultFrom}
-use Rattle.utf8.specs.AnswerOf.{answerOfLead}
-use Rattle.utf8.proofs.Laws.{fault-start, fault-end, continues, verdict, verdict-begun, verdict-never, verdict-next, verdict-not, verdict-done, begins-cut, begins-low, begins-high, begins-next}
 use Rattle.utf8.proofs.scan_utf8.Statement.{statement}
 use Rattle.utf8.proofs.scan_utf8.Tie as tie
 
-abbrev Inv-loop : tie.InvT-loop
-Inv-loop s i₀ start b more second-low second-high left₀ low₀ high₀ i left low high =
-    (start < i) × (i ≤ length s) × (i + left ≡ (start + 1) + more) × (fault s ≡ verdict s start more (continues s i left low high))
+is-ascii-requires : tie.Need-is-ascii-requires
+is-ascii-requires c κs = search needs
 
-abbrev μ-loop : tie.MeasureT-loop
-μ-loop s i₀ start b more second-low second-high left₀ low₀ high₀ i left low high = left
+returns : tie.Need-returns
+returns c = c .before .is-ascii .ensures (c .if1 .taken)
 
-abbrev Inv-scan : tie.InvT-scan
-Inv-scan s i₀ i = (i ≤ length s) × (fault s ≡ faultFrom 0 i (drop i s))
+scan-characters-requires : tie.Need-scan-characters-requires
+scan-characters-requires c κs = search needs
 
-abbrev μ-scan : tie.MeasureT-scan
-μ-scan s i₀ i = length s - i
-
--- src/lib.rt:40:5
-scan-holds : tie.Need-scan-holds Inv-loop μ-loop Inv-scan μ-scan
-scan-holds c = (omega arith, fault-start _)
-
--- src/lib.rt:45:17
-shared-slice-read-b : tie.Need-shared-slice-read-b Inv-loop μ-loop Inv-scan μ-scan
-shared-slice-read-b c = omega arith
-
--- src/lib.rt:46:57
-lead-of-requires : tie.Need-lead-of-requires Inv-loop μ-loop Inv-scan μ-scan
-lead-of-requires c κs = search needs
-
--- src/lib.rt:46:24
-enum-known-more : tie.Need-enum-known-more Inv-loop μ-loop Inv-scan μ-scan
-enum-known-more c = search needs
-
--- src/lib.rt:47:25
-enum-told : tie.Need-enum-told Inv-loop μ-loop Inv-scan μ-scan
-enum-told c = search needs
-
--- src/lib.rt:49:9
-add-i : tie.Need-add-i Inv-loop μ-loop Inv-scan μ-scan
-add-i c = omega arith
-
--- src/lib.rt:53:9
-loop-holds : tie.Need-loop-holds Inv-loop μ-loop Inv-scan μ-scan
-loop-holds c = (
-  omega arith,
-  omega arith,
-  refl,
-  verdict-begun _ _ _ _ _ (c .before .before .before .before .before .before .scan .inv .1) (omega arith) (ap answerOfLead (sym (c .before .more .given .1)) ∙ c .before .before .before .lead-of .ensures),
-)
-
--- src/lib.rt:40:5
-scan-less : tie.Need-scan-less Inv-loop μ-loop Inv-scan μ-scan
-scan-less c = omega arith
-
--- src/lib.rt:40:5
-scan-again : tie.Need-scan-again Inv-loop μ-loop Inv-scan μ-scan
-scan-again c =
-    (omega arith, verdict-done _ _ _ _ _ _ _ (c .before .loop .inv .3) (c .loop-test .left) (omega arith) (c .before .loop .inv .2))
-
--- src/lib.rt:57:21
-shared-slice-read-c : tie.Need-shared-slice-read-c Inv-loop μ-loop Inv-scan μ-scan
-shared-slice-read-c c = omega arith
-
--- src/lib.rt:66:13
-sub-left : tie.Need-sub-left Inv-loop μ-loop Inv-scan μ-scan
-sub-left c = omega arith
-
--- src/lib.rt:67:13
-add-i-2 : tie.Need-add-i-2 Inv-loop μ-loop Inv-scan μ-scan
-add-i-2 c = omega arith
-
--- src/lib.rt:53:9
-loop-less : tie.Need-loop-less Inv-loop μ-loop Inv-scan μ-scan
-loop-less c = omega arith
-
--- src/lib.rt:53:9
-loop-again : tie.Need-loop-again Inv-loop μ-loop Inv-scan μ-scan
-loop-again c = (
-  omega arith,
-  omega arith,
-  omega arith,
-  verdict-next _ _ _ _ _ (c .before .before .before .before .before .loop .inv .3) (begins-next _ _ _ _ _ (c .before .before .before .before .loop-test .taken) (omega arith) (omega arith) (omega arith)),
-)
-
--- src/lib.rt:36:1
-returns : tie.Need-returns Inv-loop μ-loop Inv-scan μ-scan
-returns c = fault-end _ _ (c .before .scan .inv .1) (omega arith)
-
--- src/lib.rt:36:1
-returns-2 : tie.Need-returns-2 Inv-loop μ-loop Inv-scan μ-scan
-returns-2 c = verdict-never _ _ (c .before .before .before .before .before .scan .inv .1) (omega arith) (ap answerOfLead (sym (c .enum-told .given .1)) ∙ c .before .before .lead-of .ensures)
-
--- src/lib.rt:36:1
-returns-3 : tie.Need-returns-3 Inv-loop μ-loop Inv-scan μ-scan
-returns-3 c = verdict-not _ _ _ _ (c .before .before .loop .inv .3) (begins-cut _ _ _ _ _ (c .before .loop-test .taken) (c .if2 .taken))
-
--- src/lib.rt:36:1
-returns-4 : tie.Need-returns-4 Inv-loop μ-loop Inv-scan μ-scan
-returns-4 c = verdict-not _ _ _ _ (c .before .before .before .before .loop .inv .3) (begins-low _ _ _ _ _ (c .before .before .before .loop-test .taken) (omega arith) (c .if3 .taken))
-
--- src/lib.rt:36:1
-returns-5 : tie.Need-returns-5 Inv-loop μ-loop Inv-scan μ-scan
-returns-5 c = verdict-not _ _ _ _ (c .before .before .before .before .before .loop .inv .3) (begins-high _ _ _ _ _ (c .before .before .before .before .loop-test .taken) (omega arith) (omega arith) (c .if4 .taken))
+returns-2 : tie.Need-returns-2
+returns-2 c = search needs
 
 pub scan-utf8-spec : {M : Type 1} → statement M
-scan-utf8-spec =
-    tie.close
-    (tie.spec
-    Inv-loop
-    μ-loop
-    Inv-scan
-    μ-scan
-    scan-holds
-    shared-slice-read-b
-    lead-of-requires
-    enum-known-more
-    enum-told
-    add-i
-    loop-holds
-    scan-less
-    scan-again
-    shared-slice-read-c
-    sub-left
-    add-i-2
-    loop-less
-    loop-again
-    returns
-    returns-2
-    returns-3
-    returns-4
-    returns-5)
+scan-utf8-spec = tie.close (tie.spec is-ascii-requires returns scan-characters-requires returns-2)

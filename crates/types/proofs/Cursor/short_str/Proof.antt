@@ -2,7 +2,7 @@
 use mathlib.Core.Path.{_≡_, sym, ap, _∙_}
 use native.Mathlib.Omega.{arith}
 use Rattle.utf8.specs.AnswerOf.{answerOfScan}
-use Rattle.utf8.proofs.Laws.{well-formed, ill-formed}
+use Rattle.utf8.proofs.ScanLaws.{well-formed, ill-formed}
 use Rattle.types.specs.Answer.{given}
 use Rattle.types.specs.Octets.{uintAt}
 use Rattle.types.specs.Strings.{spanAt}

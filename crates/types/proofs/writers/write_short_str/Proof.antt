@@ -2,7 +2,7 @@
 use mathlib.Core.Path.{sym, ap, _∙_}
 use native.Mathlib.Omega.{arith}
 use Rattle.utf8.specs.AnswerOf.{answerOfScan}
-use Rattle.utf8.proofs.Laws.{well-formed, ill-formed}
+use Rattle.utf8.proofs.ScanLaws.{well-formed, ill-formed}
 use Rattle.types.proofs.WriterLaws.{short-too-long, short-not-utf8, short-written}
 use borrow.Author.Needs.{needs}
 use Rattle.types.proofs.writers.write_short_str.Statement.{statement}

@@ -8,7 +8,7 @@ use native.Mathlib.Nat.{eq-or-lt-of-le}
 use mathlib.Core.Logic.{⊎-elim}
 use lib.Dec.{T, eqb, eqb→eq}
 use Rattle.utf8.specs.Utf8.{Range, to, character}
-use Rattle.utf8.specs.AnswerOf.{followers}
+use Rattle.utf8.specs.Utf8.{followers}
 
 and-l : (a b : Bool) → T (a && b) → T a
 and-l true b t = tt

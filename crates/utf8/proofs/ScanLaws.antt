@@ -9,9 +9,10 @@ use native.Mathlib.Omega.{arith}
 use borrow.Author.Tests.{le-leb, lt-leb}
 use lib.ListN.{length, getD, drop, drop-of-length-le}
 use lib.Seq.{drop-cons}
-use Rattle.utf8.specs.Utf8.{Range, Shape, to, holds, begins, shapes, Character, follow, illFormed, characterIn, character, Fault, none, at, after, faultFrom, fault, isNone, utf8}
+use Rattle.utf8.specs.Utf8.{Range, Shape, to, holds, shapes, followersIn, followers, begins, Character, follow, illFormed, characterIn, character, Fault, none, at, after, faultFrom, fault, isNone, utf8}
 use Rattle.utf8.specs.Choice.{pick}
-use Rattle.utf8.specs.AnswerOf.{ranges, followersIn, followers}
+use Rattle.utf8.specs.AnswerOf.{ranges}
+use Rattle.utf8.proofs.LeadLaws.{same, alike, allFrom, follows, spanned}
 
 -- ---- a character, by what follows its first octet
 
@@ -137,3 +138,11 @@ well-formed s e = ap isNone (sym e)
 pub ill-formed : (s : List ℕ) {p : ℕ} → at p ≡ fault s → utf8 s ≡ false
 unfolding utf8
 ill-formed s e = ap isNone (sym e)
+
+-- ---- octets below 128 are characters by themselves
+
+pub fault-ascii : (s : List ℕ) (i : ℕ) {F : Fault} → F ≡ faultFrom 0 i (drop i s) → i < length s → getD s i 0 < 0x80 → F ≡ faultFrom 0 (i + 1) (drop (i + 1) s)
+unfolding allFrom follows same alike followers
+fault-ascii s i f h a =
+    let alone = spanned 0 0x80 ([] ∷ []) tt (getD s i 0) (omega arith) (omega arith) in
+    verdict-done s i 0 0x80 0xBF 0 (i + 1) (verdict-begun s i 0 0x80 0xBF f h alone) (omega arith) (omega arith) (omega arith)
