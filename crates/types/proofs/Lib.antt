@@ -6,9 +6,7 @@ pub mod NumberLaws
 pub mod Signed
 pub mod BitLaws
 pub mod FloatLaws
-pub mod ValueLaws
 pub mod StringLaws
 pub mod Splice
-pub mod WriterLaws
 pub mod Standing
 pub mod RoundTrip

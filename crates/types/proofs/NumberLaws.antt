@@ -44,6 +44,13 @@ unfolding numberAt
 numberAt-lt s o zero at = lit< tt
 numberAt-lt s o (suc k) at = rw (pow-suc 256 k) (digits-lt (numberAt-lt s o k at) (o (at + k)))
 
+-- eight octets are two numbers of four
+pub numberAt-halves : (s : List ℕ) (at : ℕ) {h l : ℕ} → h ≡ numberAt 4 s at → l ≡ numberAt 4 s (at + 4) → h * 4294967296 + l ≡ numberAt 8 s at
+unfolding numberAt
+numberAt-halves s at {h} {l} p q =
+    let same : (i : ℕ) → getD s (at + 4 + i) 0 ≡ getD s (at + (4 + i)) 0 = λ i. ap (λ (j : ℕ). getD s j 0) (omega arith) in
+    omega (arith, same 0, same 1, same 2, same 3)
+
 -- the octets are there, and the answer is their number
 pub uintAt-given : (k : ℕ) (s : List ℕ) (at : ℕ) → at + k ≤ length s → uintAt k s at ≡ given (numberAt k s at) (at + k)
 unfolding uintAt

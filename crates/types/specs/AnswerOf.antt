@@ -1,6 +1,5 @@
 -- The document's number and values for every case of every answer of the code.
 use Prim.Native.Nat.{ℕ}
-use mathlib.Core.Option.{Option, none, some}
 use Rattle.types.specs.Answer.{Refusal, Answer, given, refused, truncated, shortStrTooLong, unsupportedFieldType, notUtf8, badTape, unknownMethod, notWritten, tooDeep, tooLong, tapeFull, noSpace}
 use Rattle.types.specs.Octets.{twos}
 use Rattle.types.specs.Floats.{FloatValue, float, nan}
@@ -33,11 +32,6 @@ use Rattle.types.specs.declared.ReadF64.{ReadF64}
 use Rattle.types.specs.declared.ReadF64.the-variants as f64
 use Rattle.types.specs.declared.Skipped.{Skipped}
 use Rattle.types.specs.declared.Skipped.the-variants as skipped
-use Rattle.types.specs.declared.Written.{Written}
-use Rattle.types.specs.declared.Written.the-variants as written
-use Rattle.types.specs.declared.LeafValue.{LeafValue}
-use Rattle.types.specs.declared.LeafValue.the-variants as leaf
-use Rattle.types.specs.declared.FieldValue.{FieldValue}
 
 abbrev pub refusal : WireError → Refusal
 refusal Truncated = truncated
@@ -105,11 +99,3 @@ answerOfF64 (f64.Refused e) = refused (refusal e)
 abbrev pub answerOfSkipped : Skipped → Answer Unit
 answerOfSkipped (skipped.Next next) = given tt (next .at)
 answerOfSkipped (skipped.Refused e) = refused (refusal e)
-
-abbrev pub answerOfWritten : Written → Answer Unit
-answerOfWritten (written.Next next) = given tt next
-answerOfWritten (written.Refused e) = refused (refusal e)
-
-abbrev pub answerOfLeaf : LeafValue → Option FieldValue
-answerOfLeaf (leaf.Value v) = some v
-answerOfLeaf leaf.None = none

@@ -6,8 +6,7 @@ pub mod Strings
 pub mod Floats
 pub mod Bits
 pub mod Lookup
-pub mod Values
 pub mod Memory
-pub mod Writers
 pub mod Records
 pub mod AnswerOf
+mod Examples

@@ -1,23 +1,20 @@
-// The wire types of AMQP 0-9-1: what readers and writers answer, and the values they carry. All numbers are big-endian.
+// The wire types of AMQP 0-9-1: the refusals, a position in lent octets, and what readers answer. All numbers are big-endian.
 mod bits;
 mod floats;
 mod numbers;
 mod strings;
-mod values;
-mod writers;
 
 pub use bits::pack_bits;
-pub use writers::write_i8;
-pub use writers::write_i16;
-pub use writers::write_i32;
-pub use writers::write_i64;
-pub use writers::write_long_str;
-pub use writers::write_octets;
-pub use writers::write_short_str;
-pub use writers::write_u8;
-pub use writers::write_u16;
-pub use writers::write_u32;
-pub use writers::write_u64;
+pub use floats::f32_bits;
+pub use floats::f64_bits;
+pub use numbers::signed8;
+pub use numbers::signed16;
+pub use numbers::signed32;
+pub use numbers::signed64;
+pub use numbers::unsigned8;
+pub use numbers::unsigned16;
+pub use numbers::unsigned32;
+pub use numbers::unsigned64;
 
 // The eleven refusals, in the order of document 01's two tables.
 pub enum WireError {
@@ -106,45 +103,5 @@ pub enum ReadSpan {
 // What is passed over has no value.
 pub enum Skipped {
     Next(Cursor),
-    Refused(WireError),
-}
-
-// A leaf value of a field table: everything but a table and an array. A NaN has a case of its own, with its bits.
-pub enum FieldValue {
-    Bool(bool),
-    I8(i8),
-    U8(u8),
-    I16(i16),
-    U16(u16),
-    I32(i32),
-    U32(u32),
-    I64(i64),
-    F32(f32),
-    F32Nan(u32),
-    F64(f64),
-    F64Nan(u64),
-    Decimal { scale: u8, value: i32 },
-    LongStr(Span),
-    Bytes(Span),
-    Timestamp(u64),
-    Void,
-}
-
-// What the tape has for a leaf value: its letter and its two payload words.
-pub struct LeafWords {
-    pub letter: u8,
-    pub first: u64,
-    pub second: u64,
-}
-
-// The leaf value that some words stand for, if they stand for one.
-pub enum LeafValue {
-    Value(FieldValue),
-    None,
-}
-
-// The position behind what was written.
-pub enum Written {
-    Next(usize),
     Refused(WireError),
 }

@@ -36,6 +36,16 @@ fn number_of(s: &[u8], at: usize, k: usize) -> u64
     n
 }
 
+// Eight octets as two numbers of four: the compiler makes one load of them, and eight of the loop.
+fn number_of_8(s: &[u8], at: usize) -> u64
+    requires { ⌜ at + 8 ≤ length (now s) ⌝ }
+    ensures { λ r. ⌜ r ≡ numberAt 8 (now (s .entry)) at ⌝ }
+{
+    let high = number_of(s, at, 4);
+    let low = number_of(s, at + 4, 4);
+    high * 0x1_0000_0000 + low
+}
+
 // The number of k octets at a position. No sum wraps: the position may be any number.
 fn read_number(s: &[u8], at: usize, k: usize) -> Number
     requires { ⌜ k ≤ 8 ⌝ }
@@ -46,6 +56,9 @@ fn read_number(s: &[u8], at: usize, k: usize) -> Number
     }
     if s.len() - at < k {
         return Number::Refused(WireError::Truncated);
+    }
+    if k == 8 {
+        return Number::Value(number_of_8(s, at), at + k);
     }
     Number::Value(number_of(s, at, k), at + k)
 }

@@ -1,4 +1,4 @@
--- `wire::Cursor::i64` meets its contract. Assumes nothing.
+-- `types::Cursor::i64` meets its contract. Assumes nothing.
 use mathlib.Core.Path.{sym, ap, _∙_}
 use borrow.Author.Needs.{needs}
 use mir.Syntax.{w64}

@@ -1,4 +1,4 @@
--- `wire::Cursor::long_str` meets its contract. Assumes nothing.
+-- `types::Cursor::long_str` meets its contract. Assumes nothing.
 use mathlib.Core.Path.{sym, ap, _∙_}
 use Rattle.types.specs.AnswerOf.{answerOfU32}
 use Rattle.types.proofs.StringLaws.{longStr-given, longStr-refused}

@@ -1,4 +1,4 @@
--- `wire::Cursor::short_str` meets its contract. Assumes nothing.
+-- `types::Cursor::short_str` meets its contract. Assumes nothing.
 use mathlib.Core.Path.{_≡_, sym, ap, _∙_}
 use native.Mathlib.Omega.{arith}
 use Rattle.utf8.specs.AnswerOf.{answerOfScan}

@@ -1,4 +1,4 @@
--- `wire::Cursor::u16` meets its contract. Assumes nothing.
+-- `types::Cursor::u16` meets its contract. Assumes nothing.
 use mathlib.Core.Path.{sym, ap, _∙_}
 use borrow.Author.Needs.{needs}
 use Rattle.types.specs.AnswerOf.{answerOfNumber}

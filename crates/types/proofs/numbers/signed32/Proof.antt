@@ -1,4 +1,4 @@
--- `wire::signed32` meets its contract. Assumes nothing.
+-- `types::numbers::signed32` meets its contract. Assumes nothing.
 use borrow.Author.Needs.{needs}
 use mir.Syntax.{w32}
 use Rattle.types.proofs.Signed.{low-half, high-fits, high-half}

@@ -1,4 +1,4 @@
--- `wire::signed64` meets its contract. Assumes nothing.
+-- `types::numbers::signed64` meets its contract. Assumes nothing.
 use borrow.Author.Needs.{needs}
 use mir.Syntax.{w64}
 use Rattle.types.proofs.Signed.{low-half, high-fits, high-half}

@@ -1,4 +1,4 @@
--- `wire::signed8` meets its contract. Assumes nothing.
+-- `types::numbers::signed8` meets its contract. Assumes nothing.
 use borrow.Author.Needs.{needs}
 use mir.Syntax.{w8}
 use Rattle.types.proofs.Signed.{low-half, high-fits, high-half}

@@ -1,0 +1,44 @@
+-- `amqp_ffi::reading::amqp_u16` meets its contract. Assumes nothing.
+use mathlib.Core.Path.{sym, ap, _∙_}
+use Rattle.types.specs.AnswerOf.{answerOfU16}
+use Rattle.amqp_ffi.specs.Reply.{replyOf, number}
+use borrow.Author.Needs.{needs}
+use Rattle.amqp_ffi.proofs.reading.amqp_u16.Statement.{statement}
+use Rattle.amqp_ffi.proofs.reading.amqp_u16.Tie as tie
+
+u16-requires : tie.Need-u16-requires
+u16-requires c κs = search needs
+
+enum-known-n : tie.Need-enum-known-n
+enum-known-n c = search needs
+
+cast-put : tie.Need-cast-put
+cast-put c = search needs
+
+put-requires : tie.Need-put-requires
+put-requires c κs = search needs
+
+enum-known-e : tie.Need-enum-known-e
+enum-known-e c = search needs
+
+refuse-requires : tie.Need-refuse-requires
+refuse-requires c κs = search needs
+
+returns : tie.Need-returns
+returns c = c .put .ensures ∙ ap (replyOf number) (ap answerOfU16 (sym (c .before .before .before .n .given .1)) ∙ c .before .before .before .before .before .u16 .ensures)
+
+returns-2 : tie.Need-returns-2
+returns-2 c = c .refuse .ensures ∙ ap (replyOf number) (ap answerOfU16 (sym (c .before .before .before .e .given .1)) ∙ c .before .before .before .before .before .u16 .ensures)
+
+pub amqp-u16-spec : {M : Type 1} → statement M
+amqp-u16-spec =
+    tie.close
+    (tie.spec
+    u16-requires
+    enum-known-n
+    cast-put
+    put-requires
+    enum-known-e
+    refuse-requires
+    returns
+    returns-2)

@@ -1,0 +1,49 @@
+-- What an exported function leaves for its caller: the code it returns and the four words lent for its answer. Code 0 is a value,
+-- any other the number of a refusal (document 01, "Results and refusals").
+use Prim.Native.Nat.{ℕ}
+use mathlib.Core.List.{List, [], _∷_, _++_}
+use lib.ListN.{take}
+use Rattle.types.specs.Answer.{Refusal, Answer, given, refused}
+use Rattle.types.specs.Memory.{Outcome, outcome}
+use Rattle.types.specs.declared.Span.{Span}
+
+pub record Reply : Type 0 where
+  pub code : ℕ
+  pub words : List ℕ
+
+abbrev pub reply : ℕ → List ℕ → Reply
+reply code words = record { code = code; words = words }
+
+-- some words, and 0 after them: four in all
+abbrev pub four : List ℕ → List ℕ
+four ws = take 4 (ws ++ 0 ∷ 0 ∷ 0 ∷ 0 ∷ [])
+
+-- a refusal: its number, and its values
+abbrev pub refusalReply : Refusal → Reply
+refusalReply r = reply (r .number) (four (r .values))
+
+-- a value: 0, and the next position with the words of the value
+abbrev pub replyOf : {A : Type 0} → (A → List ℕ) → Answer A → Reply
+replyOf f (given a next) = reply 0 (four (next ∷ f a))
+replyOf f (refused r) = refusalReply r
+
+-- the words of a number, of a span, and of no value
+abbrev pub number : ℕ → List ℕ
+number n = n ∷ []
+
+abbrev pub span : Span → List ℕ
+span v = v .start ∷ v .len ∷ []
+
+abbrev pub nothing : Unit {0} → List ℕ
+nothing u = []
+
+-- a writer leaves the output too
+pub record WriterReply : Type 0 where
+  pub answer : Reply
+  pub out : List ℕ
+
+abbrev pub writerReply : ℕ → List ℕ → List ℕ → WriterReply
+writerReply code words out = record { answer = reply code words; out = out }
+
+abbrev pub writerReplyOf : Outcome Unit → WriterReply
+writerReplyOf (outcome a out) = record { answer = replyOf nothing a; out = out }

@@ -1,0 +1,141 @@
+// The fields of a line. Their octets stand in one buffer, one field behind the other, and field k is what lies from mark
+// k to mark k + 1: a case of n fields has n + 1 marks. So fields are counted from any other one by leaving marks out.
+ghost use mathlib.Core.Path.{_≡_};
+ghost use Prim.Native.Nat.{_-_, _≤_, _<_};
+ghost use lib.ListN.{length};
+
+// The octets up to the end of a field; where another field follows, its place in the line too.
+enum Decoded {
+    Before(usize, usize),
+    Last(usize),
+    Malformed,
+}
+
+// The value of a digit, or 16.
+fn digit(b: u8) -> u8
+    ensures { λ r. ⌜ r ≤ 16 ⌝ }
+{
+    match b {
+        b'0'..=b'9' => b - b'0',
+        b'a'..=b'f' => b - b'a' + 10,
+        _ => 16,
+    }
+}
+
+// What follows a field that ends at `at`: the end of the line, or a space and another field.
+fn behind(line: &[u8], at: usize, n: usize) -> Decoded {
+    if line.len() <= at {
+        return Decoded::Last(n);
+    }
+    if line[at] == b' ' {
+        return Decoded::Before(at + 1, n);
+    }
+    Decoded::Malformed
+}
+
+// The digits of a field, of which there are some, from `from` on; its octets behind the `n` that there are.
+fn digits(line: &[u8], from: usize, octets: &mut [u8], n: usize) -> Decoded {
+    let mut i = from;
+    let mut count = n;
+    while i < line.len() && line[i] != b' ' {
+        if line.len() - i < 2 {
+            return Decoded::Malformed;
+        }
+        let high = digit(line[i]);
+        let low = digit(line[i + 1]);
+        if high == 16 || low == 16 {
+            return Decoded::Malformed;
+        }
+        if octets.len() <= count {
+            return Decoded::Malformed;
+        }
+        octets[count] = high % 16 * 16 + low % 16;
+        count += 1;
+        i += 2;
+    }
+    if count == n {
+        return Decoded::Malformed;
+    }
+    behind(line, i, count)
+}
+
+fn decode(line: &[u8], from: usize, octets: &mut [u8], n: usize) -> Decoded {
+    if from < line.len() && line[from] == b'-' {
+        return behind(line, from + 1, n);
+    }
+    digits(line, from, octets, n)
+}
+
+// Splits the line that the first `end` octets of `line` are: how many marks its fields have, or 0 where it is malformed,
+// longer than `line`, or has more fields than there are marks for.
+pub(crate) fn split(line: &[u8], end: usize, octets: &mut [u8], marks: &mut [usize]) -> usize
+    ensures { λ r. ⌜ r ≤ length (now (marks .entry)) ⌝ }
+{
+    if line.len() < end {
+        return 0;
+    }
+    let text = &line[0..end];
+    let mut from = 0;
+    let mut n = 0;
+    let mut k = 0;
+    while k + 1 < marks.len() {
+        marks[k] = n;
+        match decode(text, from, octets, n) {
+            Decoded::Before(next, count) => {
+                from = next;
+                n = count;
+                k += 1;
+            }
+            Decoded::Last(count) => {
+                marks[k + 1] = count;
+                return k + 2;
+            }
+            Decoded::Malformed => return 0,
+        }
+    }
+    0
+}
+
+// How many fields there are.
+pub(crate) fn fields(marks: &[usize]) -> usize
+    ensures { λ r. ⌜ r ≡ length (now (marks .entry)) - 1 ⌝ }
+{
+    if marks.len() == 0 { 0 } else { marks.len() - 1 }
+}
+
+// Field k; no octets where there is no such field.
+pub(crate) fn field<'a>(octets: &'a [u8], marks: &[usize], k: usize) -> &'a [u8]
+    ensures { λ r. ⌜ length (now r) ≤ length (now (octets .entry)) ⌝ }
+{
+    if k < fields(marks) {
+        let start = marks[k];
+        let end = marks[k + 1];
+        if start <= end && end <= octets.len() {
+            return &octets[start..end];
+        }
+    }
+    &octets[0..0]
+}
+
+// The one octet of the first field; 0, which is no operation, where it has not one.
+pub(crate) fn operation(octets: &[u8], marks: &[usize]) -> u8 {
+    let first = field(octets, marks, 0);
+    if first.len() == 1 { first[0] } else { 0 }
+}
+
+fn wide(x: u8) -> u64
+    ensures { λ r. ⌜ r < 256 ⌝ }
+{
+    x as u64
+}
+
+// A field as a big-endian number; of more than eight octets the last eight.
+pub(crate) fn number(field: &[u8]) -> u64 {
+    let mut x: u64 = 0;
+    let mut i = 0;
+    while i < field.len() {
+        x = x % 0x100_0000_0000_0000 * 256 + wide(field[i]);
+        i += 1;
+    }
+    x
+}

@@ -1,0 +1,7 @@
+-- The specification of frames, the walk and the two senders.
+pub mod Frame
+pub mod Step
+pub mod Walk
+pub mod Senders
+pub mod AnswerOf
+pub mod Bench

@@ -1,0 +1,244 @@
+-- Commands and content headers that their writers accept are read back as they were written.
+use mathlib.Core.Path.{_≡_, refl, sym, ap, _∙_, subst}
+use mathlib.Core.Bool.{Bool, true, false, _&&_}
+use mathlib.Core.Option.{Option, none, some}
+use mathlib.Core.List.{List, [], _∷_, _++_}
+use Prim.Native.Nat.{ℕ, zero, suc, _+_, _-_, _*_, _^_, _/_, _%_, _≤_, _<_}
+use native.Mathlib.Omega.{arith}
+use native.Mathlib.Nat.{add-assoc, add-zero, two-pow-succ}
+use lib.ListN.{length, take, drop, length-append}
+use lib.Dec.{leb, ltb, eqb}
+use lib.Pow.{pow-pos}
+use lib.Arith.{digits-mod}
+use Rattle.utf8.specs.Choice.{pick}
+use Rattle.utf8.specs.Utf8.{utf8}
+use Rattle.types.specs.Answer.{Answer, given, refused, truncated, notUtf8, tooLong, notWritten, andThen, need}
+use Rattle.types.specs.Octets.{uintAt, octets}
+use Rattle.types.specs.Strings.{judgeLength}
+use Rattle.types.specs.Judgement.{test, orElse}
+use Rattle.types.specs.Bits.{bit}
+use Rattle.types.proofs.Tests.{leb-yes, leb-no, yes-leb, no-leb, decide}
+use Rattle.types.proofs.Standing.{Stands, Cut, stands-left, stands-right, cut-split}
+use Rattle.types.proofs.Chain.{test-none, orElse-none, then-go, need-given, given-next}
+use Rattle.types.proofs.RoundTrip.{number-here, number-past, short-fit}
+use Rattle.tables.specs.Letters.{Letters}
+use Rattle.tables.specs.Tape.{Record}
+use Rattle.tables.specs.Writing.{body, judgeTable, tapeMeaning}
+use Rattle.tables.proofs.JudgeLaws.{Octets, and-true, table-fit}
+use Rattle.method.specs.Fields.{Kind, number, shortStr, bits, login, table, Field, fixed, arg, Login, Meaning, Sent, Located, Args}
+use Rattle.method.specs.Commands.{Row, commands, fieldsIn, orNone, known, fieldsOf, Command, call}
+use Rattle.method.specs.Properties.{properties, select, flagsNumber, flagsOf, Header, header}
+use Rattle.method.specs.Writing.{loginText, sentArgMeaning, sentArgsMeaning, sentCommandMeaning, sentHeaderMeaning, commandValues, headerValues, argOctets, fieldOctets, commandOctets, headerOctets, judgeArg, judgeArgs, judgeArgLength, judgeLengths, refusalOf, commandRefusal, headerRefusal, Typed, TypedAll, TypedCommand, TypedHeader, NoNulArg, NoNulArgs, NoNulCommand}
+use Rattle.method.specs.Reading.{fieldsAt, commandAt, headerAt, tapeOf, returnedArgs, argsMeaning, commandWithTape, headerWithTape, commandMeaning, headerMeaning}
+use Rattle.method.proofs.FieldLaws.{Fit, Fits, placeAll, fields-here, tape-sizes, args-meaning}
+
+-- Flags
+
+pub flags-lt : (ps : List Bool) → flagsNumber ps < 2 ^ length ps
+flags-lt [] = omega arith
+flags-lt (true ∷ ps) = omega (arith, flags-lt ps, two-pow-succ (length ps))
+flags-lt (false ∷ ps) = omega (arith, flags-lt ps, two-pow-succ (length ps))
+
+pub flags-of : (ps : List Bool) → flagsOf (length ps) (flagsNumber ps) ≡ ps
+unfolding flagsOf
+flags-of [] = refl
+flags-of (true ∷ ps) = rw (leb-yes (2 ^ length ps) (1 * 2 ^ length ps + flagsNumber ps) (omega arith), digits-mod 1 (flags-lt ps), flags-of ps)
+flags-of (false ∷ ps) =
+    rw (leb-no (2 ^ length ps) (0 * 2 ^ length ps + flagsNumber ps) (omega (arith, flags-lt ps)), digits-mod 0 (flags-lt ps), flags-of ps)
+
+flags-octets : (ps : List Bool) → length ps ≡ 13 → 8 * flagsNumber ps < 256 ^ 2
+flags-octets ps e = let l : flagsNumber ps < 2 ^ 13 = rw e at (flags-lt ps) in omega arith
+
+flags-read : (ps : List Bool) → length ps ≡ 13 → flagsOf 13 (8 * flagsNumber ps / 8) ≡ ps
+flags-read ps e =
+    let d : 8 * flagsNumber ps / 8 ≡ flagsNumber ps = omega arith in
+    rw d (ap (λ (w : ℕ). flagsOf w (flagsNumber ps)) (sym e) ∙ flags-of ps)
+
+-- Every bit octet of the tables has eight bits at most: one test over the tables
+
+abbrev smallPlaces : Field → Bool
+smallPlaces (fixed xs) = true
+smallPlaces (arg (number k)) = true
+smallPlaces (arg shortStr) = true
+smallPlaces (arg (bits places)) = leb (length places) 8
+smallPlaces (arg login) = true
+smallPlaces (arg table) = true
+
+abbrev every : {A : Type 0} → (A → Bool) → List A → Bool
+every f [] = true
+every f (x ∷ xs) = f x && every f xs
+
+abbrev Small : List Field → Type 0
+Small fs = every smallPlaces fs ≡ true
+
+small-in : (rs : List Row) (c m : ℕ) → every (λ r. every smallPlaces (r .fields)) rs ≡ true → Small (orNone (fieldsIn rs c m))
+small-in [] c m e = refl
+small-in (r ∷ rs) c m e =
+    let a = and-true (every smallPlaces (r .fields)) (every (λ y. every smallPlaces (y .fields)) rs) e in
+    go (a .0) (eqb c (r .class)) (eqb m (r .method)) (small-in rs c m (a .1))
+  where
+    go : Small (r .fields) → (p q : Bool) → Small (orNone (fieldsIn rs c m)) → Small (orNone (pick p (pick q (some (r .fields)) (fieldsIn rs c m)) (fieldsIn rs c m)))
+    go s true true ih = s
+    go s true false ih = ih
+    go s false q ih = ih
+
+select-every : (f : Field → Bool) (ps : List Bool) (fs : List Field) → every f fs ≡ true → every f (select ps fs) ≡ true
+unfolding select
+select-every f [] fs e = refl
+select-every f (p ∷ ps) [] e = refl
+select-every f (true ∷ ps) (x ∷ fs) e =
+    let a = and-true (f x) (every f fs) e in
+    rw (a .0) (select-every f ps fs (a .1))
+select-every f (false ∷ ps) (x ∷ fs) e = select-every f ps fs ((and-true (f x) (every f fs) e) .1)
+
+commands-small : (c m : ℕ) → Small (fieldsOf c m)
+unfolding fieldsOf
+commands-small c m = small-in commands c m refl
+
+properties-small : (ps : List Bool) → Small (select ps properties)
+properties-small ps = select-every smallPlaces ps properties (unfold properties in refl)
+
+-- A content header has no login
+
+abbrev noLogin : Field → Bool
+noLogin (fixed xs) = true
+noLogin (arg (number k)) = true
+noLogin (arg shortStr) = true
+noLogin (arg (bits places)) = true
+noLogin (arg login) = false
+noLogin (arg table) = true
+
+no-login-arg : (k : Kind) (v : Sent k) → noLogin (arg k) ≡ true → NoNulArg k v
+no-login-arg (number k) v e = tt
+no-login-arg shortStr v e = tt
+no-login-arg (bits places) v e = tt
+no-login-arg login v e = let z : _≡_ {A = ℕ} 0 1 = cc in absurd (omega arith)
+no-login-arg table v e = tt
+
+no-login-args : (fs : List Field) → every noLogin fs ≡ true → (vs : Args Sent fs) → NoNulArgs fs vs
+no-login-args [] e vs = tt
+no-login-args (fixed xs ∷ fs) e vs = no-login-args fs e vs
+no-login-args (arg k ∷ fs) e vs =
+    let a = and-true (noLogin (arg k)) (every noLogin fs) e in
+    (no-login-arg k (vs .0) (a .0), no-login-args fs (a .1) (vs .1))
+
+no-login : (ps : List Bool) (fs : List Field) → every noLogin fs ≡ true → (vs : Args Sent (select ps fs)) → NoNulArgs (select ps fs) vs
+no-login ps fs e vs = no-login-args (select ps fs) (select-every noLogin ps fs e) vs
+
+-- Arguments that pass fit
+
+length-fit : (n : ℕ) → judgeLength n ≡ none → n < 256 ^ 4
+length-fit n e = omega (arith, yes-leb n 4294967295 ((test-none (leb n 4294967295) tooLong none e) .0))
+
+module _ (letters : Letters) where
+  abbrev pub FitCommand : Command Meaning → Type 0
+  FitCommand (call c m vs) = (c < 256 ^ 2) × (m < 256 ^ 2) × (known c m ≡ true) × Fits letters (fieldsOf c m) vs
+
+  abbrev pub FitHeader : Header Meaning → Type 0
+  FitHeader (header c n ps vs) = (c < 256 ^ 2) × (n < 256 ^ 8) × (length ps ≡ 13) × Fits letters (select ps properties) vs
+
+  -- Read back
+
+  pub placeCommand : ℕ → Command Meaning → Command Located
+  placeCommand p (call c m vs) = call c m (placeAll letters (fieldsOf c m) (p + 2 + 2) vs)
+
+  pub placeHeader : ℕ → Header Meaning → Header Located
+  placeHeader p (header c n ps vs) = header c n ps (placeAll letters (select ps properties) (p + 2 + 2 + 8 + 2) vs)
+
+  pub command-here : {s : List ℕ} {p : ℕ} (x : Command Meaning) (room : ℕ) → FitCommand x → commandValues x ≤ room → Stands s p (commandOctets letters x)
+      → length s ≡ p + length (commandOctets letters x) → commandAt letters s p room ≡ given (placeCommand p x) (p + length (commandOctets letters x))
+  unfolding commandAt commandOctets placeCommand
+  command-here {s} {p} (call c m vs) room f k h l =
+      let w = fieldOctets letters (fieldsOf c m) vs in
+      let h1 : Stands s p (octets 2 c) = stands-left (octets 2 c) (octets 2 m ++ w) h in
+      let g1 : Stands s (p + 2) (octets 2 m ++ w) = stands-right (octets 2 c) (octets 2 m ++ w) h in
+      let h2 : Stands s (p + 2) (octets 2 m) = stands-left (octets 2 m) w g1 in
+      let g2 : Stands s (p + 2 + 2) w = stands-right (octets 2 m) w g1 in
+      rw (
+        number-here 2 c (f .0) h1,
+        number-here 2 m (f .1) h2,
+        f .2,
+        fields-here letters (fieldsOf c m) vs room (f .3) k g2,
+        leb-yes (length s) (p + 2 + 2 + length w) (omega arith),
+      )
+      (ap (given (call c m (placeAll letters (fieldsOf c m) (p + 2 + 2) vs))) (omega arith))
+
+  pub header-here : {s : List ℕ} {p : ℕ} (x : Header Meaning) (room : ℕ) → FitHeader x → headerValues x ≤ room → Stands s p (headerOctets letters x)
+      → headerAt letters s p room ≡ given (placeHeader p x) (p + length (headerOctets letters x))
+  unfolding headerAt headerOctets placeHeader
+  header-here {s} {p} (header c n ps vs) room f k h =
+      let w = fieldOctets letters (select ps properties) vs in
+      let F = octets 2 (8 * flagsNumber ps) in
+      let g1 : Stands s (p + 2) (octets 2 0 ++ (octets 8 n ++ (F ++ w))) = stands-right (octets 2 c) (octets 2 0 ++ (octets 8 n ++ (F ++ w))) h in
+      let g2 : Stands s (p + 2 + 2) (octets 8 n ++ (F ++ w)) = stands-right (octets 2 0) (octets 8 n ++ (F ++ w)) g1 in
+      let g3 : Stands s (p + 2 + 2 + 8) (F ++ w) = stands-right (octets 8 n) (F ++ w) g2 in
+      let g4 : Stands s (p + 2 + 2 + 8 + 2) w = stands-right F w g3 in
+      rw (
+        number-here 2 c (f .0) (stands-left (octets 2 c) (octets 2 0 ++ (octets 8 n ++ (F ++ w))) h),
+        number-here 2 0 (omega arith) (stands-left (octets 2 0) (octets 8 n ++ (F ++ w)) g1),
+        number-here 8 n (f .1) (stands-left (octets 8 n) (F ++ w) g2),
+        number-here 2 (8 * flagsNumber ps) (flags-octets ps (f .2)) (stands-left F w g3),
+        flags-read ps (f .2),
+        fields-here letters (select ps properties) vs room (f .3) k g4,
+      )
+      (ap (given (header c n ps (placeAll letters (select ps properties) (p + 2 + 2 + 8 + 2) vs))) (omega arith))
+
+  pub command-size : (x : Command Meaning) (p : ℕ) → length (commandWithTape (placeCommand p x) .tape) ≡ commandValues x
+  unfolding placeCommand
+  command-size (call c m vs) p = tape-sizes letters (fieldsOf c m) vs (p + 2 + 2)
+
+  pub header-size : (x : Header Meaning) (p : ℕ) → length (headerWithTape (placeHeader p x) .tape) ≡ headerValues x
+  unfolding placeHeader
+  header-size (header c n ps vs) p = tape-sizes letters (select ps properties) vs (p + 2 + 2 + 8 + 2)
+
+  pub command-meaning : {s : List ℕ} {p : ℕ} (x : Command Meaning) → FitCommand x → Stands s p (commandOctets letters x)
+      → commandMeaning letters s (commandWithTape (placeCommand p x) .value) (commandWithTape (placeCommand p x) .tape) ≡ x
+  unfolding placeCommand commandOctets
+  command-meaning {s} {p} (call c m vs) f h =
+      let w = fieldOctets letters (fieldsOf c m) vs in
+      ap (call c m) (args-meaning letters (fieldsOf c m) vs (f .3) (stands-right (octets 2 m) w (stands-right (octets 2 c) (octets 2 m ++ w) h)))
+
+  pub header-meaning : {s : List ℕ} {p : ℕ} (x : Header Meaning) → FitHeader x → Stands s p (headerOctets letters x)
+      → headerMeaning letters s (headerWithTape (placeHeader p x) .value) (headerWithTape (placeHeader p x) .tape) ≡ x
+  unfolding placeHeader headerOctets
+  header-meaning {s} {p} (header c n ps vs) f h =
+      let w = fieldOctets letters (select ps properties) vs in
+      let F = octets 2 (8 * flagsNumber ps) in
+      let g1 : Stands s (p + 2) (octets 2 0 ++ (octets 8 n ++ (F ++ w))) = stands-right (octets 2 c) (octets 2 0 ++ (octets 8 n ++ (F ++ w))) h in
+      ap (header c n ps) (args-meaning letters (select ps properties) vs (f .3) (stands-right F w (stands-right (octets 8 n) (F ++ w) (stands-right (octets 2 0) (octets 8 n ++ (F ++ w)) g1))))
+
+module _ (letters : Letters) (octet : Octets letters) where
+  arg-fit : (k : Kind) (v : Sent k) → Typed k v → smallPlaces (arg k) ≡ true → judgeArg letters k v ≡ none → judgeArgLength letters k (sentArgMeaning letters k v) ≡ none → NoNulArg k v
+      → Fit letters k (sentArgMeaning letters k v)
+  arg-fit (number k) v t b e l z = t
+  arg-fit shortStr v t b e l z = short-fit v e
+  arg-fit (bits places) v t b e l z = (t, yes-leb (length places) 8 b)
+  arg-fit login v t b e l z =
+      let a = test-none (utf8 (v .user)) notUtf8 (test (utf8 (v .password)) notUtf8 none) e in
+      (a .0, (test-none (utf8 (v .password)) notUtf8 none (a .1)) .0, z, length-fit (length (loginText v)) l)
+  arg-fit table v t b e l z =
+      let n = length-fit (length (body letters true (tapeMeaning letters (v .pool) (v .tape)))) l in
+      (table-fit letters (v .pool) (v .tape) octet e n, n)
+
+  args-fit : (fs : List Field) (vs : Args Sent fs) → Small fs → TypedAll fs vs → judgeArgs letters fs vs ≡ none → judgeLengths letters fs (sentArgsMeaning letters fs vs) ≡ none → NoNulArgs fs vs
+      → Fits letters fs (sentArgsMeaning letters fs vs)
+  unfolding judgeArgs judgeLengths sentArgsMeaning
+  args-fit [] vs b t e l z = tt
+  args-fit (fixed xs ∷ fs) vs b t e l z = args-fit fs vs b t e l z
+  args-fit (arg k ∷ fs) vs b t e l z =
+      let a = orElse-none (judgeArg letters k (vs .0)) (judgeArgs letters fs (vs .1)) e in
+      let n = orElse-none (judgeArgLength letters k (sentArgMeaning letters k (vs .0))) (judgeLengths letters fs (sentArgsMeaning letters fs (vs .1))) l in
+      let s = and-true (smallPlaces (arg k)) (every smallPlaces fs) b in
+      (arg-fit k (vs .0) (t .0) (s .0) (a .0) (n .0) (z .0), args-fit fs (vs .1) (s .1) (t .1) (a .1) (n .1) (z .1))
+
+  pub command-fit : (x : Command Sent) → TypedCommand x → commandRefusal letters x ≡ none → NoNulCommand x → FitCommand letters (sentCommandMeaning letters x)
+  unfolding TypedCommand commandRefusal NoNulCommand
+  command-fit (call c m vs) t e z =
+      let a = orElse-none (judgeArgs letters (fieldsOf c m) vs) (judgeLengths letters (fieldsOf c m) (sentArgsMeaning letters (fieldsOf c m) vs)) e in
+      (t .0, t .1, t .2, args-fit (fieldsOf c m) vs (commands-small c m) (t .3) (a .0) (a .1) z)
+
+  pub header-fit : (x : Header Sent) → TypedHeader x → headerRefusal letters x ≡ none → FitHeader letters (sentHeaderMeaning letters x)
+  unfolding TypedHeader headerRefusal
+  header-fit (header c n ps vs) t e =
+      let a = orElse-none (judgeArgs letters (select ps properties) vs) (judgeLengths letters (select ps properties) (sentArgsMeaning letters (select ps properties) vs)) e in
+      (t .0, t .1, t .2, args-fit (select ps properties) vs (properties-small ps) (t .3) (a .0) (a .1) (no-login ps properties (unfold properties in refl) vs))

@@ -1,0 +1,70 @@
+-- What a command or a content header is made of: a list of fields, fixed octets or arguments (document 01, "method.rs").
+use mathlib.Core.Bool.{Bool, true, false}
+use mathlib.Core.List.{List, [], _∷_, _++_}
+use Prim.Native.Nat.{ℕ}
+use Rattle.types.specs.declared.Span.{Span}
+use Rattle.tables.specs.Forest.{TableMeaning, LocatedTable}
+
+pub data Kind : Type 0 where
+  -- so many octets
+  number : ℕ → Kind
+  shortStr : Kind
+  -- one octet, lowest bit first: true where an argument stands
+  bits : List Bool → Kind
+  -- a long string NUL user NUL password: RFC 4616
+  login : Kind
+  table : Kind
+
+pub data Field : Type 0 where
+  fixed : List ℕ → Field
+  arg : Kind → Field
+
+pub record Login (A : Type 0) : Type 0 where
+  pub user : A
+  pub password : A
+
+-- The meaning of an argument
+
+abbrev pub Meaning : Kind → Type 0
+Meaning (number k) = ℕ
+Meaning shortStr = List ℕ
+Meaning (bits places) = List Bool
+Meaning login = Login (List ℕ)
+Meaning table = TableMeaning
+
+-- An argument as a sender hands it to a writer: a table is a tape, in words, over a pool
+
+pub record SentTable : Type 0 where
+  pub tape : List ℕ
+  pub pool : List ℕ
+
+abbrev pub Sent : Kind → Type 0
+Sent (number k) = ℕ
+Sent shortStr = List ℕ
+Sent (bits places) = List Bool
+Sent login = Login (List ℕ)
+Sent table = SentTable
+
+-- as it is located in octets
+
+abbrev pub Located : Kind → Type 0
+Located (number k) = ℕ
+Located shortStr = Span
+Located (bits places) = List Bool
+Located login = Login Span
+Located table = LocatedTable
+
+-- and as a reader returns it: of a table, which is on the tape, the number of its records
+
+abbrev pub Returned : Kind → Type 0
+Returned (number k) = ℕ
+Returned shortStr = Span
+Returned (bits places) = List Bool
+Returned login = Login Span
+Returned table = ℕ
+
+-- one for each argument of some fields
+abbrev pub Args : (Kind → Type 0) → List Field → Type 0
+Args X [] = Unit {0}
+Args X (fixed octets ∷ fs) = Args X fs
+Args X (arg k ∷ fs) = X k × Args X fs

@@ -1,0 +1,69 @@
+-- What a reader returns is what a writer takes: the same command or header, its strings as spans of a lent pool and its table as the lent tape.
+-- A span outside the pool has fewer octets than it needs: Truncated, judged before the string's length.
+use mathlib.Core.Option.{Option, none}
+use mathlib.Core.List.{List, [], _∷_}
+use Prim.Native.Nat.{ℕ}
+use Rattle.utf8.specs.Utf8.{utf8}
+use Rattle.types.specs.Answer.{Refusal, truncated, notUtf8}
+use Rattle.types.specs.Strings.{octetsOf, judgeShortStr}
+use Rattle.types.specs.Judgement.{test, orElse}
+use Rattle.types.specs.Memory.{Outcome}
+use Rattle.writers.specs.Writers.{writeAt}
+use Rattle.types.specs.declared.Span.{Span}
+use Rattle.tables.specs.Letters.{Letters}
+use Rattle.tables.specs.Writing.{inPool, judgeTable}
+use Rattle.method.specs.Fields.{Kind, number, shortStr, bits, login, table, Field, fixed, arg, Sent, Returned, Args}
+use Rattle.method.specs.Commands.{fieldsOf, Command, call}
+use Rattle.method.specs.Properties.{properties, select, Header, header}
+use Rattle.method.specs.Writing.{sentArgsMeaning, sentCommandMeaning, sentHeaderMeaning, commandOctets, headerOctets, judgeLengths}
+
+module _ (letters : Letters) (pool tape : List ℕ) where
+  -- the argument that it stands for: a writer takes the whole tape given
+  abbrev pub sentArg : (k : Kind) → Returned k → Sent k
+  sentArg (number k) n = n
+  sentArg shortStr v = octetsOf pool v
+  sentArg (bits places) flags = flags
+  sentArg login x = record { user = octetsOf pool (x .user); password = octetsOf pool (x .password) }
+  sentArg table n = record { tape = tape; pool = pool }
+
+  unfoldable pub sentArgs : (fs : List Field) → Args Returned fs → Args Sent fs
+  sentArgs [] vs = tt
+  sentArgs (fixed xs ∷ fs) vs = sentArgs fs vs
+  sentArgs (arg k ∷ fs) vs = (sentArg k (vs .0), sentArgs fs (vs .1))
+
+  abbrev pub sentCommand : Command Returned → Command Sent
+  sentCommand (call c m vs) = call c m (sentArgs (fieldsOf c m) vs)
+
+  abbrev pub sentHeader : Header Returned → Header Sent
+  sentHeader (header c n present vs) = header c n present (sentArgs (select present properties) vs)
+
+  -- first the span, then what stands in it; each string wholly before the next
+  abbrev pub judgeSpan : Span → Option Refusal → Option Refusal
+  judgeSpan v more = test (inPool pool (v .start) (v .len)) truncated more
+
+  abbrev pub judgeText : Span → Option Refusal → Option Refusal
+  judgeText v more = judgeSpan v (test (utf8 (octetsOf pool v)) notUtf8 more)
+
+  abbrev pub judgeReturned : (k : Kind) → Returned k → Option Refusal
+  judgeReturned (number k) n = none
+  judgeReturned shortStr v = judgeSpan v (judgeShortStr (octetsOf pool v))
+  judgeReturned (bits places) flags = none
+  judgeReturned login x = judgeText (x .user) (judgeText (x .password) none)
+  judgeReturned table n = judgeTable letters pool tape
+
+  -- in wire order
+  unfoldable pub judgePooled : (fs : List Field) → Args Returned fs → Option Refusal
+  judgePooled [] vs = none
+  judgePooled (fixed xs ∷ fs) vs = judgePooled fs vs
+  judgePooled (arg k ∷ fs) vs = orElse (judgeReturned k (vs .0)) (judgePooled fs (vs .1))
+
+  abbrev pub refusalPooled : (fs : List Field) → Args Returned fs → Option Refusal
+  refusalPooled fs vs = orElse (judgePooled fs vs) (judgeLengths letters fs (sentArgsMeaning letters fs (sentArgs fs vs)))
+
+  unfoldable pub writeCommandPooled : Command Returned → ℕ → List ℕ → Outcome Unit
+  writeCommandPooled (call c m vs) at out =
+      writeAt (refusalPooled (fieldsOf c m) vs) (commandOctets letters (sentCommandMeaning letters (sentCommand (call c m vs)))) at out
+
+  unfoldable pub writeHeaderPooled : Header Returned → ℕ → List ℕ → Outcome Unit
+  writeHeaderPooled (header c n present vs) at out =
+      writeAt (refusalPooled (select present properties) vs) (headerOctets letters (sentHeaderMeaning letters (sentHeader (header c n present vs)))) at out

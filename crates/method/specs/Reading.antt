@@ -1,0 +1,171 @@
+-- The command reader and the content header reader: document 01, "method.rs". A reader is given the octets up to the payload's end.
+use mathlib.Core.Bool.{Bool, true, false}
+use mathlib.Core.Option.{Option, none, some}
+use mathlib.Core.List.{List, [], _∷_, _++_}
+use Prim.Native.Nat.{ℕ, suc, _+_, _-_, _/_, _%_}
+use lib.ListN.{length, take, drop}
+use lib.Dec.{leb, ltb, eqb}
+use Rattle.utf8.specs.Choice.{pick}
+use Rattle.utf8.specs.Utf8.{utf8}
+use Rattle.types.specs.Answer.{Answer, given, refused, notUtf8, notWritten, unknownMethod, andThen, need}
+use Rattle.types.specs.Octets.{uintAt}
+use Rattle.types.specs.Strings.{octetsOf, spanAt, longStrAt, shortStrAt}
+use Rattle.types.specs.declared.Span.{Span}
+use Rattle.tables.specs.Letters.{Letters}
+use Rattle.tables.specs.Forest.{size, meaningOf}
+use Rattle.tables.specs.Reading.{tableAt}
+use Rattle.tables.specs.Tape.{Record, flatten, forestOf, WithTape}
+use Rattle.method.specs.Fields.{Kind, number, shortStr, bits, login, table, Field, fixed, arg, Login, Meaning, Located, Returned, Args}
+use Rattle.method.specs.Commands.{known, fieldsOf, Command, call}
+use Rattle.method.specs.Properties.{properties, select, flagsOf, Header, header}
+
+-- the same octets
+unfoldable pub same : List ℕ → List ℕ → Bool
+same [] [] = true
+same [] (y ∷ ys) = false
+same (x ∷ xs) [] = false
+same (x ∷ xs) (y ∷ ys) = pick (eqb x y) (same xs ys) false
+
+-- the flags of a bit octet n in the places of the arguments; none if a bit without an argument is set
+abbrev pub withFlag : Bool → Option (List Bool) → Option (List Bool)
+withFlag f none = none
+withFlag f (some flags) = some (f ∷ flags)
+
+unfoldable pub flagsIn : List Bool → ℕ → Option (List Bool)
+flagsIn [] n = pick (eqb n 0) (some []) none
+flagsIn (false ∷ places) n = pick (eqb (n % 2) 1) none (flagsIn places (n / 2))
+flagsIn (true ∷ places) n = withFlag (eqb (n % 2) 1) (flagsIn places (n / 2))
+
+-- a field at p whose value is none is NotWritten there
+abbrev pub writtenAt : {A : Type 0} → ℕ → Option A → ℕ → Answer A
+writtenAt p none q = refused (notWritten p)
+writtenAt p (some a) q = given a q
+
+-- the place of the first NUL
+abbrev pub oneMore : Option ℕ → Option ℕ
+oneMore none = none
+oneMore (some n) = some (suc n)
+
+unfoldable pub untilNul : List ℕ → Option ℕ
+untilNul [] = none
+untilNul (x ∷ xs) = pick (eqb x 0) (some 0) (oneMore (untilNul xs))
+
+-- the length of the user in a login string: a NUL, the user up to the next NUL, the password
+abbrev pub userLength : List ℕ → Option ℕ
+userLength [] = none
+userLength (x ∷ xs) = pick (eqb x 0) (untilNul xs) none
+
+abbrev pub loginSpans : Span → ℕ → Login Span
+loginSpans v m =
+    record {
+      user = record { start = v .start + 1; len = m };
+      password = record { start = v .start + m + 2; len = v .len - (m + 2) };
+    }
+
+-- first NotWritten at its length field p, then NotUtf8
+abbrev pub loginIn : List ℕ → ℕ → Span → Option ℕ → ℕ → Answer (Login Span)
+loginIn s p v none q = refused (notWritten p)
+loginIn s p v (some m) q =
+    need (utf8 (octetsOf s (loginSpans v m .user))) notUtf8
+    (need (utf8 (octetsOf s (loginSpans v m .password))) notUtf8 (given (loginSpans v m) q))
+
+unfoldable pub argAt : Letters → (k : Kind) → List ℕ → ℕ → ℕ → Answer (Located k)
+argAt letters (number k) s p room = uintAt k s p
+argAt letters shortStr s p room = shortStrAt s p
+argAt letters (bits places) s p room = andThen (uintAt 1 s p) (λ n q. writtenAt p (flagsIn places n) q)
+argAt letters login s p room = andThen (longStrAt s p) (λ v q. loginIn s p v (userLength (octetsOf s v)) q)
+argAt letters table s p room = tableAt letters s p room
+
+-- the tape records of what is located
+abbrev pub argTape : (k : Kind) → Located k → List Record
+argTape (number k) n = []
+argTape shortStr x = []
+argTape (bits places) flags = []
+argTape login x = []
+argTape table t = flatten t
+
+unfoldable pub tapeOf : (fs : List Field) → Args Located fs → List Record
+tapeOf [] vs = []
+tapeOf (fixed xs ∷ fs) vs = tapeOf fs vs
+tapeOf (arg k ∷ fs) vs = argTape k (vs .0) ++ tapeOf fs (vs .1)
+
+-- fields in octet order: a fixed one is taken whole, and is NotWritten at its first octet if it differs
+unfoldable pub fieldsAt : Letters → (fs : List Field) → List ℕ → ℕ → ℕ → Answer (Args Located fs)
+fieldsAt letters [] s p room = given tt p
+fieldsAt letters (fixed xs ∷ fs) s p room =
+    andThen (spanAt (length xs) s p) (λ v q. need (same (octetsOf s v) xs) (notWritten p) (fieldsAt letters fs s q room))
+fieldsAt letters (arg k ∷ fs) s p room =
+    andThen (argAt letters k s p room)
+    (λ v q. andThen (fieldsAt letters fs s q (room - length (argTape k v))) (λ vs r. given (v, vs) r))
+
+-- class and method, the pair's arguments, and no octet more
+unfoldable pub commandAt : Letters → List ℕ → ℕ → ℕ → Answer (Command Located)
+commandAt letters s p room =
+    andThen (uintAt 2 s p)
+    (λ c q.
+    andThen (uintAt 2 s q)
+    (λ m r.
+    need (known c m) (unknownMethod c m)
+    (andThen (fieldsAt letters (fieldsOf c m) s r room) (λ vs t. need (leb (length s) t) (notWritten t) (given (call c m vs) t)))))
+
+-- class, weight, body size, flags, the properties present; weight, flags 2 to 0 and what follows are ignored
+unfoldable pub headerAt : Letters → List ℕ → ℕ → ℕ → Answer (Header Located)
+headerAt letters s p room =
+    andThen (uintAt 2 s p)
+    (λ c q.
+    andThen (uintAt 2 s q)
+    (λ weight r.
+    andThen (uintAt 8 s r)
+    (λ n t.
+    andThen (uintAt 2 s t)
+    (λ flags u.
+    andThen (fieldsAt letters (select (flagsOf 13 (flags / 8)) properties) s u room)
+    (λ vs v. given (header c n (flagsOf 13 (flags / 8)) vs) v)))))
+
+-- What is returned of what is located, with its tape records
+
+abbrev pub returnedArg : (k : Kind) → Located k → Returned k
+returnedArg (number k) n = n
+returnedArg shortStr x = x
+returnedArg (bits places) flags = flags
+returnedArg login x = x
+returnedArg table t = size t
+
+unfoldable pub returnedArgs : (fs : List Field) → Args Located fs → Args Returned fs
+returnedArgs [] vs = tt
+returnedArgs (fixed xs ∷ fs) vs = returnedArgs fs vs
+returnedArgs (arg k ∷ fs) vs = (returnedArg k (vs .0), returnedArgs fs (vs .1))
+
+abbrev pub commandWithTape : Command Located → WithTape (Command Returned)
+commandWithTape (call c m vs) = record { value = call c m (returnedArgs (fieldsOf c m) vs); tape = tapeOf (fieldsOf c m) vs }
+
+abbrev pub headerWithTape : Header Located → WithTape (Header Returned)
+headerWithTape (header c n present vs) =
+    record { value = header c n present (returnedArgs (select present properties) vs); tape = tapeOf (select present properties) vs }
+
+-- The meaning of what is returned, over the octets and its tape records
+
+abbrev pub argMeaning : Letters → (k : Kind) → List ℕ → Returned k → List Record → Meaning k
+argMeaning letters (number k) s n rs = n
+argMeaning letters shortStr s x rs = octetsOf s x
+argMeaning letters (bits places) s flags rs = flags
+argMeaning letters login s x rs = record { user = octetsOf s (x .user); password = octetsOf s (x .password) }
+argMeaning letters table s n rs = meaningOf letters s (forestOf (take n rs))
+
+abbrev pub used : (k : Kind) → Returned k → ℕ
+used (number k) n = 0
+used shortStr x = 0
+used (bits places) flags = 0
+used login x = 0
+used table n = n
+
+unfoldable pub argsMeaning : Letters → (fs : List Field) → List ℕ → Args Returned fs → List Record → Args Meaning fs
+argsMeaning letters [] s vs rs = tt
+argsMeaning letters (fixed xs ∷ fs) s vs rs = argsMeaning letters fs s vs rs
+argsMeaning letters (arg k ∷ fs) s vs rs = (argMeaning letters k s (vs .0) rs, argsMeaning letters fs s (vs .1) (drop (used k (vs .0)) rs))
+
+abbrev pub commandMeaning : Letters → List ℕ → Command Returned → List Record → Command Meaning
+commandMeaning letters s (call c m vs) rs = call c m (argsMeaning letters (fieldsOf c m) s vs rs)
+
+abbrev pub headerMeaning : Letters → List ℕ → Header Returned → List Record → Header Meaning
+headerMeaning letters s (header c n present vs) rs = header c n present (argsMeaning letters (select present properties) s vs rs)

@@ -1,0 +1,186 @@
+-- What is written of fields, and what their writers refuse: arguments in wire order, each short string for length, then UTF-8; then 9, then 11
+-- (document 01, "Results and refusals" and "method.rs").
+use mathlib.Core.Path.{_≡_}
+use mathlib.Core.Bool.{Bool, true, false}
+use mathlib.Core.Option.{Option, none, some}
+use mathlib.Core.List.{List, [], _∷_, _++_}
+use Prim.Native.Nat.{ℕ, suc, _+_, _*_, _^_, _<_}
+use lib.ListN.{length}
+use lib.Dec.{eqb}
+use Rattle.utf8.specs.Utf8.{utf8}
+use Rattle.types.specs.Answer.{Refusal, notUtf8}
+use Rattle.types.specs.Octets.{octets}
+use Rattle.types.specs.Strings as string
+use Rattle.types.specs.Strings.{longStr, judgeShortStr, judgeLength}
+use Rattle.types.specs.Bits.{packBits}
+use Rattle.types.specs.Judgement.{test, orElse}
+use Rattle.types.specs.Memory.{Outcome}
+use Rattle.writers.specs.Writers.{writeAt}
+use Rattle.tables.specs.Letters.{Letters}
+use Rattle.tables.specs.Forest.{size}
+use Rattle.tables.specs.Writing.{body, tableOctets, judgeTable, tapeMeaning}
+use Rattle.method.specs.Fields.{Kind, number, shortStr, bits, login, table, Field, fixed, arg, Login, Meaning, SentTable, Sent, Args}
+use Rattle.method.specs.Commands.{known, fieldsOf, Command, call}
+use Rattle.method.specs.Properties.{properties, select, flagsNumber, Header, header}
+
+-- the flags in the places of the arguments, 0 in the others
+unfoldable pub placed : List Bool → List Bool → List Bool
+placed [] flags = []
+placed (false ∷ places) flags = false ∷ placed places flags
+placed (true ∷ places) [] = false ∷ placed places []
+placed (true ∷ places) (f ∷ flags) = f ∷ placed places flags
+
+abbrev pub howMany : List Bool → ℕ
+howMany [] = 0
+howMany (false ∷ places) = howMany places
+howMany (true ∷ places) = suc (howMany places)
+
+abbrev pub loginText : Login (List ℕ) → List ℕ
+loginText x = 0 ∷ (x .user ++ (0 ∷ x .password))
+
+-- The meaning of what a sender hands to a writer
+
+abbrev pub sentArgMeaning : Letters → (k : Kind) → Sent k → Meaning k
+sentArgMeaning letters (number k) n = n
+sentArgMeaning letters shortStr xs = xs
+sentArgMeaning letters (bits places) flags = flags
+sentArgMeaning letters login x = x
+sentArgMeaning letters table t = tapeMeaning letters (t .pool) (t .tape)
+
+unfoldable pub sentArgsMeaning : Letters → (fs : List Field) → Args Sent fs → Args Meaning fs
+sentArgsMeaning letters [] vs = tt
+sentArgsMeaning letters (fixed xs ∷ fs) vs = sentArgsMeaning letters fs vs
+sentArgsMeaning letters (arg k ∷ fs) vs = (sentArgMeaning letters k (vs .0), sentArgsMeaning letters fs (vs .1))
+
+abbrev pub sentCommandMeaning : Letters → Command Sent → Command Meaning
+sentCommandMeaning letters (call c m vs) = call c m (sentArgsMeaning letters (fieldsOf c m) vs)
+
+abbrev pub sentHeaderMeaning : Letters → Header Sent → Header Meaning
+sentHeaderMeaning letters (header c n present vs) = header c n present (sentArgsMeaning letters (select present properties) vs)
+
+-- How many values, at any depth, are in its tables
+
+abbrev pub values : (k : Kind) → Meaning k → ℕ
+values (number k) n = 0
+values shortStr xs = 0
+values (bits places) flags = 0
+values login x = 0
+values table t = size t
+
+abbrev pub valuesIn : (fs : List Field) → Args Meaning fs → ℕ
+valuesIn [] vs = 0
+valuesIn (fixed xs ∷ fs) vs = valuesIn fs vs
+valuesIn (arg k ∷ fs) vs = values k (vs .0) + valuesIn fs (vs .1)
+
+abbrev pub commandValues : Command Meaning → ℕ
+commandValues (call c m vs) = valuesIn (fieldsOf c m) vs
+
+abbrev pub headerValues : Header Meaning → ℕ
+headerValues (header c n present vs) = valuesIn (select present properties) vs
+
+-- Its octets
+
+abbrev pub argOctets : Letters → (k : Kind) → Meaning k → List ℕ
+argOctets letters (number k) n = octets k n
+argOctets letters shortStr xs = string.shortStr xs
+argOctets letters (bits places) flags = octets 1 (packBits (placed places flags))
+argOctets letters login x = longStr (loginText x)
+argOctets letters table t = tableOctets letters t
+
+unfoldable pub fieldOctets : Letters → (fs : List Field) → Args Meaning fs → List ℕ
+fieldOctets letters [] vs = []
+fieldOctets letters (fixed xs ∷ fs) vs = xs ++ fieldOctets letters fs vs
+fieldOctets letters (arg k ∷ fs) vs = argOctets letters k (vs .0) ++ fieldOctets letters fs (vs .1)
+
+unfoldable pub commandOctets : Letters → Command Meaning → List ℕ
+commandOctets letters (call c m vs) = octets 2 c ++ (octets 2 m ++ fieldOctets letters (fieldsOf c m) vs)
+
+-- flags 15 to 3 by the properties present; weight and flags 2 to 0 are 0
+unfoldable pub headerOctets : Letters → Header Meaning → List ℕ
+headerOctets letters (header c n present vs) =
+    octets 2 c ++ (octets 2 0 ++ (octets 8 n ++ (octets 2 (8 * flagsNumber present) ++ fieldOctets letters (select present properties) vs)))
+
+-- What is refused
+
+abbrev pub judgeArg : Letters → (k : Kind) → Sent k → Option Refusal
+judgeArg letters (number k) n = none
+judgeArg letters shortStr xs = judgeShortStr xs
+judgeArg letters (bits places) flags = none
+judgeArg letters login x = test (utf8 (x .user)) notUtf8 (test (utf8 (x .password)) notUtf8 none)
+judgeArg letters table t = judgeTable letters (t .pool) (t .tape)
+
+unfoldable pub judgeArgs : Letters → (fs : List Field) → Args Sent fs → Option Refusal
+judgeArgs letters [] vs = none
+judgeArgs letters (fixed xs ∷ fs) vs = judgeArgs letters fs vs
+judgeArgs letters (arg k ∷ fs) vs = orElse (judgeArg letters k (vs .0)) (judgeArgs letters fs (vs .1))
+
+-- the length fields of four octets
+abbrev pub judgeArgLength : Letters → (k : Kind) → Meaning k → Option Refusal
+judgeArgLength letters (number k) n = none
+judgeArgLength letters shortStr xs = none
+judgeArgLength letters (bits places) flags = none
+judgeArgLength letters login x = judgeLength (length (loginText x))
+judgeArgLength letters table t = judgeLength (length (body letters true t))
+
+unfoldable pub judgeLengths : Letters → (fs : List Field) → Args Meaning fs → Option Refusal
+judgeLengths letters [] vs = none
+judgeLengths letters (fixed xs ∷ fs) vs = judgeLengths letters fs vs
+judgeLengths letters (arg k ∷ fs) vs = orElse (judgeArgLength letters k (vs .0)) (judgeLengths letters fs (vs .1))
+
+abbrev pub refusalOf : Letters → (fs : List Field) → Args Sent fs → Option Refusal
+refusalOf letters fs vs = orElse (judgeArgs letters fs vs) (judgeLengths letters fs (sentArgsMeaning letters fs vs))
+
+unfoldable pub commandRefusal : Letters → Command Sent → Option Refusal
+commandRefusal letters (call c m vs) = refusalOf letters (fieldsOf c m) vs
+
+unfoldable pub headerRefusal : Letters → Header Sent → Option Refusal
+headerRefusal letters (header c n present vs) = refusalOf letters (select present properties) vs
+
+-- The writers
+
+unfoldable pub writeCommand : Letters → Command Sent → ℕ → List ℕ → Outcome Unit
+writeCommand letters x at out = writeAt (commandRefusal letters x) (commandOctets letters (sentCommandMeaning letters x)) at out
+
+unfoldable pub writeHeader : Letters → Header Sent → ℕ → List ℕ → Outcome Unit
+writeHeader letters x at out = writeAt (headerRefusal letters x) (headerOctets letters (sentHeaderMeaning letters x)) at out
+
+-- The ranges that the writers' parameter types have
+
+abbrev pub Typed : (k : Kind) → Sent k → Type 0
+Typed (number k) n = n < 256 ^ k
+Typed shortStr xs = Unit {0}
+Typed (bits places) flags = length flags ≡ howMany places
+Typed login x = Unit {0}
+Typed table t = Unit {0}
+
+abbrev pub TypedAll : (fs : List Field) → Args Sent fs → Type 0
+TypedAll [] vs = Unit {0}
+TypedAll (fixed xs ∷ fs) vs = TypedAll fs vs
+TypedAll (arg k ∷ fs) vs = Typed k (vs .0) × TypedAll fs (vs .1)
+
+unfoldable pub TypedCommand : Command Sent → Type 0
+TypedCommand (call c m vs) = (c < 256 ^ 2) × (m < 256 ^ 2) × (known c m ≡ true) × TypedAll (fieldsOf c m) vs
+
+unfoldable pub TypedHeader : Header Sent → Type 0
+TypedHeader (header c n present vs) = (c < 256 ^ 2) × (n < 256 ^ 8) × (length present ≡ 13) × TypedAll (select present properties) vs
+
+-- No NUL in a login's user
+
+abbrev pub NoNul : List ℕ → Type 0
+NoNul [] = Unit {0}
+NoNul (x ∷ xs) = (eqb x 0 ≡ false) × NoNul xs
+
+abbrev pub NoNulArg : (k : Kind) → Sent k → Type 0
+NoNulArg (number k) n = Unit {0}
+NoNulArg shortStr xs = Unit {0}
+NoNulArg (bits places) flags = Unit {0}
+NoNulArg login x = NoNul (x .user)
+NoNulArg table t = Unit {0}
+
+abbrev pub NoNulArgs : (fs : List Field) → Args Sent fs → Type 0
+NoNulArgs [] vs = Unit {0}
+NoNulArgs (fixed xs ∷ fs) vs = NoNulArgs fs vs
+NoNulArgs (arg k ∷ fs) vs = NoNulArg k (vs .0) × NoNulArgs fs (vs .1)
+
+unfoldable pub NoNulCommand : Command Sent → Type 0
+NoNulCommand (call c m vs) = NoNulArgs (fieldsOf c m) vs

@@ -1,0 +1,145 @@
+// Answers cases, one to a line of standard input, by a line each on standard output: the crate `cases` has their form.
+use libc::STDIN_FILENO;
+
+// How many octets a line has that its buffer does not hold.
+const TOO_LONG: usize = usize::MAX;
+
+// The octets of the line that is being read, those of the output that are not yet written, and whether the input has
+// ended.
+struct Progress {
+    held: usize,
+    pending: usize,
+    ended: bool,
+}
+
+// One octet more of a line that has `n`.
+fn keep(line: &mut [u8], n: usize, b: u8) -> usize {
+    if n < line.len() {
+        line[n] = b;
+        n + 1
+    } else {
+        TOO_LONG
+    }
+}
+
+// Takes one octet of the input; the newline has its line answered.
+fn take(
+    b: u8,
+    p: Progress,
+    line: &mut [u8],
+    octets: &mut [u8],
+    marks: &mut [usize],
+    lent: &mut [u8],
+    out: &mut [u8],
+) -> Progress {
+    if b == b'\n' {
+        Progress {
+            held: 0,
+            pending: cases::answer(line, p.held, octets, marks, lent, out, p.pending),
+            ended: false,
+        }
+    } else {
+        Progress {
+            held: keep(line, p.held, b),
+            pending: p.pending,
+            ended: false,
+        }
+    }
+}
+
+// Takes a part of the input.
+fn take_part(
+    part: &[u8],
+    p: Progress,
+    line: &mut [u8],
+    octets: &mut [u8],
+    marks: &mut [usize],
+    lent: &mut [u8],
+    out: &mut [u8],
+) -> Progress {
+    let mut now = p;
+    let mut i = 0;
+    while i < part.len() {
+        now = take(part[i], now, line, octets, marks, lent, out);
+        i += 1;
+    }
+    now
+}
+
+// Reads once. Where that fails, what was read of a line is no line.
+fn read_part(
+    p: Progress,
+    line: &mut [u8],
+    octets: &mut [u8],
+    marks: &mut [usize],
+    lent: &mut [u8],
+    out: &mut [u8],
+) -> Progress {
+    let mut part = io::large_buffer();
+    let got = libc::read(STDIN_FILENO, &mut part);
+    if got < 0 {
+        return Progress {
+            held: 0,
+            pending: cases::text(out, p.pending, b"# input failed\n"),
+            ended: true,
+        };
+    }
+    if got == 0 {
+        return Progress {
+            held: p.held,
+            pending: p.pending,
+            ended: true,
+        };
+    }
+    let n = io::count(got, &part);
+    take_part(&part[0..n], p, line, octets, marks, lent, out)
+}
+
+// Reads to the end of the input, in no more than `turns` reads: no contract says that the input ends.
+fn read_all(
+    line: &mut [u8],
+    octets: &mut [u8],
+    marks: &mut [usize],
+    lent: &mut [u8],
+    out: &mut [u8],
+) -> Progress {
+    let mut p = Progress {
+        held: 0,
+        pending: 0,
+        ended: false,
+    };
+    let mut turns = u64::MAX;
+    while turns > 0 && !p.ended {
+        p = read_part(p, line, octets, marks, lent, out);
+        turns -= 1;
+    }
+    p
+}
+
+// The last line may lack its newline.
+fn replay(
+    line: &mut [u8],
+    octets: &mut [u8],
+    marks: &mut [usize],
+    lent: &mut [u8],
+    out: &mut [u8],
+) {
+    let p = read_all(line, octets, marks, lent, out);
+    if p.held == 0 {
+        cases::flush(out, p.pending);
+        return;
+    }
+    let end = cases::answer(line, p.held, octets, marks, lent, out, p.pending);
+    cases::flush(out, end);
+}
+
+// Buffers are made once: one that is made for each case would be cleared for each case. A line of 400,000 octets has at
+// most 200,000 in its fields, of which 33 marks allow 32.
+fn main() {
+    let mut line = [0u8; 400_000];
+    let mut octets = [0u8; 200_000];
+    let mut marks = [0usize; 33];
+    let mut lent = [0u8; 262_144];
+    let mut out = [0u8; 65_536];
+    replay(&mut line, &mut octets, &mut marks, &mut lent, &mut out);
+}

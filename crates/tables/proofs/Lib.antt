@@ -1,0 +1,8 @@
+-- Laws of the specification of field tables.
+pub mod Fit
+pub mod ReadingLaws
+pub mod Room
+pub mod RoundTrip
+pub mod TapeLaws
+pub mod JudgeLaws
+pub mod Relay

@@ -1,0 +1,4 @@
+-- The specification of leaf values.
+pub mod Values
+pub mod AnswerOf
+mod Examples

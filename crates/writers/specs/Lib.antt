@@ -1,0 +1,3 @@
+-- The specification of the writers.
+pub mod Writers
+pub mod AnswerOf

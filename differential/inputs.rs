@@ -1,0 +1,521 @@
+//! Well-formed inputs of readers and arguments of writers, drawn at random with a weight on the
+//! limits; and the pieces of which `cases` makes others.
+use amqp_rust::frame::{Frame, FrameType};
+use amqp_rust::method::{ContentProperties, content_header_with_props};
+use amqp_rust::tape::{Table, store_table};
+use amqp_rust::types::{FieldValue, Writer};
+
+/// A splitmix64 generator: the same numbers for the same seed on every machine.
+pub struct Rng(pub u64);
+
+impl Rng {
+    pub fn next(&mut self) -> u64 {
+        self.0 = self.0.wrapping_add(0x9e37_79b9_7f4a_7c15);
+        let mut z = self.0;
+        z = (z ^ (z >> 30)).wrapping_mul(0xbf58_476d_1ce4_e5b9);
+        z = (z ^ (z >> 27)).wrapping_mul(0x94d0_49bb_1331_11eb);
+        z ^ (z >> 31)
+    }
+
+    pub fn below(&mut self, limit: u64) -> u64 {
+        self.next() % limit
+    }
+
+    pub fn octet(&mut self) -> u8 {
+        self.next() as u8
+    }
+
+    pub fn octets(&mut self, length: usize) -> Vec<u8> {
+        (0..length).map(|_| self.octet()).collect()
+    }
+
+    pub fn one_in(&mut self, times: u64) -> bool {
+        self.below(times) == 0
+    }
+
+    /// A place in a list of this length, which must not be 0.
+    pub fn place(&mut self, length: usize) -> usize {
+        self.below(length as u64) as usize
+    }
+
+    pub fn pick<T: Copy>(&mut self, of: &[T]) -> T {
+        of[self.place(of.len())]
+    }
+}
+
+/// A well-formed input of a reader, with nothing after it.
+pub fn reader_input(r: &mut Rng, operation: u8) -> Vec<u8> {
+    if let Some(width) = number_width(operation) {
+        return number(r, width);
+    }
+    match operation {
+        0x01 => table_octets(&table(r)),
+        0x02 => value_octets(&lone_value(r)),
+        0x03 => short_string(text_up_to(r, 255).as_bytes()),
+        // What skip_field_table skips need not be a table.
+        0x05 if r.one_in(2) => table_octets(&table(r)),
+        0x04 | 0x05 => long_string(&long_content(r)),
+        0x06 => frame(r).encode(),
+        0x07 => header_octets(&header(r, 255)),
+        _ => reply(r, operation),
+    }
+}
+
+/// The fields of a case for a writer: arguments that the Rust can hold, so any refusal is 2.
+pub fn writer_arguments(r: &mut Rng, operation: u8) -> Vec<Vec<u8>> {
+    match operation {
+        0x30 => command(r),
+        0x31 => {
+            let longest = if r.one_in(10) { 256 } else { 255 };
+            header_fields(&header(r, longest))
+        }
+        0x32 => frame_fields(&frame(r)),
+        0x33 => table_fields(&table_to_write(r)),
+        0x34 => table_fields(&[(String::new(), lone_value(r))]),
+        0x35 => vec![(0..8).map(|_| r.below(2) as u8).collect()],
+        0x36 => vec![short_or_too_long(r)],
+        _ => vec![long_content(r)],
+    }
+}
+
+/// The octets that a reader of numbers reads; none for other readers.
+pub fn number_width(operation: u8) -> Option<usize> {
+    match operation {
+        0x08 | 0x0c => Some(1),
+        0x09 | 0x0d => Some(2),
+        0x0a | 0x0e | 0x10 => Some(4),
+        0x0b | 0x0f | 0x11 => Some(8),
+        _ => None,
+    }
+}
+
+/// Numbers of a width at which something changes, among them the odd floats by their bits.
+pub fn edge_numbers(width: usize) -> &'static [u64] {
+    match width {
+        1 => &[0, 1, 0x7f, 0x80, 0x81, 0xfe, 0xff],
+        2 => &[0, 1, 0xff, 0x100, 0x102, 0x7fff, 0x8000, 0x8001, 0xfffe, 0xffff],
+        4 => EDGES_32,
+        _ => EDGES_64,
+    }
+}
+
+const EDGES_32: &[u64] = &[
+    0,
+    1, // as a float the least subnormal
+    0x7f,
+    0x80,
+    0xffff,
+    0x1_0000,
+    0x0102_0304,
+    0x7fff_ffff,
+    0x8000_0000, // -0
+    0x8000_0001, // the negative subnormal nearest to it
+    0xffff_fffe,
+    0xffff_ffff,
+    0x3f80_0000, // 1
+    0x007f_ffff, // the largest subnormal
+    0x0080_0000, // the least normal
+    0x7f7f_ffff, // the largest number
+    0x7f80_0000, // infinity
+    0xff80_0000, // -infinity
+    0x7fc0_0000, // quiet NaN
+    0x7fc0_0001,
+    0xffc0_0000, // negative quiet NaN
+    0xffc0_0001,
+    0x7f80_0001, // signalling NaN
+    0x7fbf_ffff,
+    0xff80_0001, // negative signalling NaN
+    0xffbf_ffff,
+];
+
+const EDGES_64: &[u64] = &[
+    0,
+    1, // as a float the least subnormal
+    0x7f,
+    0x80,
+    0xffff_ffff,
+    0x1_0000_0000,
+    0x0102_0304_0506_0708,
+    0x7fff_ffff_ffff_ffff,
+    0x8000_0000_0000_0000, // -0
+    0x8000_0000_0000_0001, // the negative subnormal nearest to it
+    0xffff_ffff_ffff_fffe,
+    0xffff_ffff_ffff_ffff,
+    0x3ff0_0000_0000_0000, // 1
+    0x000f_ffff_ffff_ffff, // the largest subnormal
+    0x0010_0000_0000_0000, // the least normal
+    0x7fef_ffff_ffff_ffff, // the largest number
+    0x7ff0_0000_0000_0000, // infinity
+    0xfff0_0000_0000_0000, // -infinity
+    0x7ff8_0000_0000_0000, // quiet NaN
+    0x7ff8_0000_0000_0001,
+    0xfff8_0000_0000_0000, // negative quiet NaN
+    0xfff8_0000_0000_0001,
+    0x7ff0_0000_0000_0001, // signalling NaN
+    0x7ff7_ffff_ffff_ffff,
+    0xfff0_0000_0000_0001, // negative signalling NaN
+    0xfff7_ffff_ffff_ffff,
+    // POSIX seconds: the bench sheet's, then the day of 2026-11-15 (UTC) with its neighbours
+    1_700_000_001,
+    1_794_700_799,
+    1_794_700_800, // 00:00:00
+    1_794_700_801,
+    1_794_744_000, // 12:00:00
+    1_794_787_199, // 23:59:59
+    1_794_787_200,
+];
+
+/// A number of `width` octets, often an edge or small.
+fn number(r: &mut Rng, width: usize) -> Vec<u8> {
+    let number = match r.below(6) {
+        0 | 1 => r.pick(edge_numbers(width)),
+        2 => r.below(16),
+        _ => r.next() >> r.below(64),
+    };
+    big_endian(number, width)
+}
+
+/// The lowest `width` octets of a number.
+pub fn big_endian(number: u64, width: usize) -> Vec<u8> {
+    number.to_be_bytes()[8 - width..].to_vec()
+}
+
+fn u16(r: &mut Rng) -> u16 {
+    u16::from_be_bytes(number(r, 2).try_into().unwrap())
+}
+
+fn u32(r: &mut Rng) -> u32 {
+    u32::from_be_bytes(number(r, 4).try_into().unwrap())
+}
+
+fn u64(r: &mut Rng) -> u64 {
+    u64::from_be_bytes(number(r, 8).try_into().unwrap())
+}
+
+/// First and last characters of each length that UTF-8 has, and the neighbours of the surrogates.
+#[rustfmt::skip]
+pub const BOUNDARY_CHARACTERS: [char; 16] = [
+    '\0', '\u{7f}', '\u{80}', '\u{7ff}', '\u{800}', '\u{fff}', '\u{1000}', '\u{d7ff}', '\u{e000}', '\u{ffff}',
+    '\u{10000}', '\u{3ffff}', '\u{40000}', '\u{fffff}', '\u{100000}', '\u{10ffff}',
+];
+
+/// A text of exactly `length` octets, mostly small letters.
+fn text(r: &mut Rng, length: usize) -> String {
+    let mut text = String::with_capacity(length);
+    while text.len() < length {
+        let character = match r.below(12) {
+            0 => r.pick(&BOUNDARY_CHARACTERS),
+            _ => char::from(b'a' + r.below(26) as u8),
+        };
+        let fits = text.len() + character.len_utf8() <= length;
+        text.push(if fits { character } else { 'z' });
+    }
+    text
+}
+
+fn text_up_to(r: &mut Rng, most: usize) -> String {
+    let length = length_up_to(r, most);
+    text(r, length)
+}
+
+/// A length up to `most`: often small, and each end more often than the rest.
+fn length_up_to(r: &mut Rng, most: usize) -> usize {
+    match r.below(20) {
+        0 => 0,
+        1 => most,
+        2 => most - 1,
+        3..=6 => r.place(most + 1),
+        _ => r.place(12).min(most),
+    }
+}
+
+/// A text for a writer of short strings: up to 258 octets, so that some are too long.
+fn short_or_too_long(r: &mut Rng) -> Vec<u8> {
+    let exact = r.pick(&[254, 255, 256]);
+    let length = if r.one_in(4) { exact } else { length_up_to(r, 258) };
+    text(r, length).into_bytes()
+}
+
+/// The content of a long string: a text or any octets.
+fn long_content(r: &mut Rng) -> Vec<u8> {
+    let exact = r.pick(&[254, 255, 256]);
+    let length = if r.one_in(8) { exact } else { length_up_to(r, 258) };
+    if r.one_in(2) { text(r, length).into_bytes() } else { r.octets(length) }
+}
+
+/// A short string as it stands on the wire; the octets may be no text.
+pub fn short_string(octets: &[u8]) -> Vec<u8> {
+    [&[octets.len() as u8], octets].concat()
+}
+
+/// A long string as it stands on the wire.
+pub fn long_string(octets: &[u8]) -> Vec<u8> {
+    [&(octets.len() as u32).to_be_bytes(), octets].concat()
+}
+
+/// The value letters that document 01 reads.
+pub const LETTERS: &[u8] = b"tbBsuIilfdDSxTVFA";
+
+/// The greatest depth at which a table or an array may stand.
+const DEEPEST: u32 = 15;
+
+/// A value that stands at `depth`. `budget` bounds the tables and arrays in and beside it.
+fn value(r: &mut Rng, depth: u32, budget: &mut u32) -> FieldValue {
+    *budget = budget.saturating_sub(1);
+    let leaves_only = depth > DEEPEST || *budget == 0;
+    match r.pick(LETTERS) {
+        b'F' | b'A' if leaves_only => FieldValue::Void,
+        b'F' => FieldValue::Table(entries(r, depth + 1, budget)),
+        b'A' => {
+            let count = r.below(5);
+            FieldValue::Array((0..count).map(|_| value(r, depth + 1, budget)).collect())
+        }
+        letter => leaf(r, letter),
+    }
+}
+
+fn leaf(r: &mut Rng, letter: u8) -> FieldValue {
+    match letter {
+        b't' => FieldValue::Bool(r.one_in(2)),
+        b'b' => FieldValue::I8(r.octet() as i8),
+        b'B' => FieldValue::U8(r.octet()),
+        b's' => FieldValue::I16(u16(r) as i16),
+        b'u' => FieldValue::U16(u16(r)),
+        b'I' => FieldValue::I32(u32(r) as i32),
+        b'i' => FieldValue::U32(u32(r)),
+        b'l' => FieldValue::I64(u64(r) as i64),
+        b'f' => FieldValue::F32(f32::from_bits(u32(r))),
+        b'd' => FieldValue::F64(f64::from_bits(u64(r))),
+        b'D' => FieldValue::Decimal { scale: r.octet(), value: u32(r) as i32 },
+        b'S' => FieldValue::LongStr(leaf_octets(r)),
+        b'x' => FieldValue::Bytes(leaf_octets(r)),
+        b'T' => FieldValue::Timestamp(u64(r)),
+        _ => FieldValue::Void,
+    }
+}
+
+fn leaf_octets(r: &mut Rng) -> Vec<u8> {
+    let most = if r.one_in(10) { 300 } else { 12 };
+    let length = r.place(most);
+    r.octets(length)
+}
+
+fn lone_value(r: &mut Rng) -> FieldValue {
+    value(r, 1, &mut 20)
+}
+
+/// Entries whose values stand at `depth`.
+fn entries(r: &mut Rng, depth: u32, budget: &mut u32) -> Table {
+    let count = r.below(6);
+    (0..count).map(|_| (name(r), value(r, depth, budget))).collect()
+}
+
+fn name(r: &mut Rng) -> String {
+    let most = if r.one_in(30) { 255 } else { 8 };
+    text_up_to(r, most)
+}
+
+fn table(r: &mut Rng) -> Table {
+    if r.one_in(12) {
+        let depth = r.below(u64::from(DEEPEST) + 1);
+        return chain(r, depth);
+    }
+    let mut budget = r.pick(&[0, 3, 10, 40]);
+    entries(r, 1, &mut budget)
+}
+
+/// Tables and arrays one in another, `depth` of them.
+fn chain(r: &mut Rng, depth: u64) -> Table {
+    let mut table = Table::new();
+    for _ in 0..depth {
+        let outer = match r.one_in(2) {
+            true => FieldValue::Table(table),
+            false => FieldValue::Array(table.into_iter().map(|(_, value)| value).collect()),
+        };
+        table = vec![("c".into(), outer)];
+    }
+    table
+}
+
+/// A table, now and then with a name that is too long.
+fn table_to_write(r: &mut Rng) -> Table {
+    let mut table = table(r);
+    if r.one_in(20) {
+        let place = r.place(table.len() + 1);
+        table.insert(place, (text(r, 256), FieldValue::Void));
+    }
+    table
+}
+
+/// A table of many entries, none of which has others beneath it.
+pub fn flat_table(r: &mut Rng, count: usize) -> Table {
+    (0..count).map(|place| (format!("k{place}"), value(r, 1, &mut 0))).collect()
+}
+
+pub fn table_octets(table: &[(String, FieldValue)]) -> Vec<u8> {
+    let entries: Vec<_> = table.iter().map(|(k, v)| (k.as_str(), v.clone())).collect();
+    let mut w = Writer::new();
+    w.field_table(&entries).expect("names of at most 255 octets");
+    w.into_bytes()
+}
+
+fn value_octets(value: &FieldValue) -> Vec<u8> {
+    let mut w = Writer::new();
+    w.field_value(value).expect("names of at most 255 octets");
+    w.into_bytes()
+}
+
+/// Pool and tape.
+pub fn table_fields(table: &[(String, FieldValue)]) -> Vec<Vec<u8>> {
+    let (pool, tape) = store_table(table);
+    vec![pool, tape]
+}
+
+fn frame(r: &mut Rng) -> Frame {
+    let types = [FrameType::Method, FrameType::Header, FrameType::Body, FrameType::Heartbeat];
+    let length = r.place(60);
+    Frame { frame_type: r.pick(&types), channel: u16(r), payload: r.octets(length) }
+}
+
+/// Type, channel and payload.
+pub fn frame_fields(frame: &Frame) -> Vec<Vec<u8>> {
+    let channel = frame.channel.to_be_bytes().to_vec();
+    vec![vec![frame.frame_type as u8], channel, frame.payload.clone()]
+}
+
+struct Header {
+    class: u16,
+    size: u64,
+    properties: ContentProperties,
+}
+
+/// A content header with strings of at most `longest` octets.
+fn header(r: &mut Rng, longest: usize) -> Header {
+    let flags = match r.below(4) {
+        0 => 0,
+        1 => 0xffff,
+        _ => r.next(),
+    };
+    let on = |flag: u32| flags >> flag & 1 == 1;
+    let string = |r: &mut Rng, flag| on(flag).then(|| text_up_to(r, longest));
+    let properties = ContentProperties {
+        content_type: string(r, 15),
+        content_encoding: string(r, 14),
+        headers: on(13).then(|| table(r)),
+        delivery_mode: on(12).then(|| r.octet()),
+        priority: on(11).then(|| r.octet()),
+        correlation_id: string(r, 10),
+        reply_to: string(r, 9),
+        expiration: string(r, 8),
+        message_id: string(r, 7),
+        timestamp: on(6).then(|| u64(r)),
+        type_: string(r, 5),
+        user_id: string(r, 4),
+        app_id: string(r, 3),
+    };
+    Header { class: u16(r), size: u64(r), properties }
+}
+
+fn header_octets(header: &Header) -> Vec<u8> {
+    content_header_with_props(header.class, header.size, &header.properties)
+        .expect("strings of at most 255 octets")
+}
+
+/// Class, size, flags, then the present properties in wire order.
+fn header_fields(header: &Header) -> Vec<Vec<u8>> {
+    let properties = property_fields(&header.properties);
+    let flag = |(place, fields): (usize, &Option<_>)| u16::from(fields.is_some()) << (15 - place);
+    let flags: u16 = properties.iter().enumerate().map(flag).sum();
+    let mut fields = vec![
+        header.class.to_be_bytes().to_vec(),
+        header.size.to_be_bytes().to_vec(),
+        flags.to_be_bytes().to_vec(),
+    ];
+    fields.extend(properties.into_iter().flatten().flatten());
+    fields
+}
+
+/// The fields of each property that is present, in wire order: flag 15 first.
+fn property_fields(p: &ContentProperties) -> [Option<Vec<Vec<u8>>>; 13] {
+    let string = |text: &Option<String>| text.clone().map(|text| vec![text.into_bytes()]);
+    let octet = |number: Option<u8>| number.map(|number| vec![vec![number]]);
+    [
+        string(&p.content_type),
+        string(&p.content_encoding),
+        p.headers.as_deref().map(table_fields),
+        octet(p.delivery_mode),
+        octet(p.priority),
+        string(&p.correlation_id),
+        string(&p.reply_to),
+        string(&p.expiration),
+        string(&p.message_id),
+        p.timestamp.map(|number| vec![big_endian(number, 8)]),
+        string(&p.type_),
+        string(&p.user_id),
+        string(&p.app_id),
+    ]
+}
+
+/// Class, method and arguments of each command: H, L, Q numbers of 2, 4 and 8 octets, s a short
+/// string, b a flag, p a text of any length (user and password).
+#[rustfmt::skip]
+pub const COMMANDS: [(u16, u16, &str); 25] = [
+    (10, 11, "pp"), (10, 31, "HLH"), (10, 40, "s"),
+    (20, 10, ""), (20, 20, "b"), (20, 21, "b"), (20, 40, "Hs"), (20, 41, ""),
+    (40, 10, "ssb"), (40, 20, "sb"),
+    (50, 10, "sb"), (50, 20, "sss"), (50, 30, "s"), (50, 40, "s"), (50, 50, "sss"),
+    (60, 10, "LHb"), (60, 20, "ssb"), (60, 30, "sb"), (60, 40, "ss"), (60, 70, "sb"),
+    (60, 80, "Qb"), (60, 90, "Qb"), (60, 120, "Qbb"),
+    (85, 10, "b"), (90, 10, ""),
+];
+
+fn command(r: &mut Rng) -> Vec<Vec<u8>> {
+    let (class, method, letters) = r.pick(&COMMANDS);
+    let arguments = letters.chars().map(|letter| argument(r, letter)).collect();
+    command_fields(class, method, arguments)
+}
+
+/// Class, method, then the arguments.
+pub fn command_fields(class: u16, method: u16, arguments: Vec<Vec<u8>>) -> Vec<Vec<u8>> {
+    let ids = [class.to_be_bytes().to_vec(), method.to_be_bytes().to_vec()];
+    ids.into_iter().chain(arguments).collect()
+}
+
+/// An argument by its letter; a few short strings are too long.
+fn argument(r: &mut Rng, letter: char) -> Vec<u8> {
+    match letter {
+        'H' => number(r, 2),
+        'L' => number(r, 4),
+        'Q' => number(r, 8),
+        'b' => vec![r.below(2) as u8],
+        'p' => text_up_to(r, 300).into_bytes(),
+        _ => {
+            let most = if r.one_in(15) { 257 } else { 255 };
+            text_up_to(r, most).into_bytes()
+        }
+    }
+}
+
+/// A payload of the kind that a reply reader reads: class and method (class and weight of a content
+/// header), then arguments by the same letters.
+fn reply(r: &mut Rng, operation: u8) -> Vec<u8> {
+    let letters = match operation {
+        0x20 => "",
+        0x21 => "HLH",   // connection.tune
+        0x22 => "sLL",   // queue.declare-ok
+        0x23 => "s",     // basic.consume-ok
+        0x24 => "L",     // queue.purge-ok, queue.delete-ok
+        0x25 => "QbssL", // basic.get-ok
+        0x26 => "sQbss", // basic.deliver
+        0x27 => "Qb",    // basic.ack
+        _ => "QH",       // a content header
+    };
+    let mut octets = r.octets(4);
+    for letter in letters.chars() {
+        octets.extend(match letter {
+            's' => short_string(text_up_to(r, 255).as_bytes()),
+            _ => argument(r, letter),
+        });
+    }
+    octets
+}
