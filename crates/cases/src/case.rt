@@ -1,21 +1,19 @@
 // A case is answered by the operation that its first field names.
-ghost use Prim.Native.Nat.{_≤_, max};
+ghost use Prim.Native.Nat.{_≤_};
 ghost use lib.ListN.{length};
 use crate::line;
 use crate::print;
 use crate::reading;
 use crate::writing;
 
-fn operation(octets: &[u8], marks: &[usize], lent: &mut [u8], out: &mut [u8], at: usize) -> usize
-    ensures { λ r. ⌜ r ≤ max at (length (now (out .entry))) ⌝ }
-{
+fn operation(octets: &[u8], marks: &[usize], lent: &mut [u8], out: &mut [u8], at: usize) -> usize {
     let op = line::operation(octets, marks);
     match op {
         0x03..=0x05 | 0x08..=0x11 => reading::answer(op, octets, marks, out, at),
         0x35 => writing::answer_bits(octets, marks, out, at),
         0x36..=0x37 => writing::answer(op, octets, marks, lent, out, at),
         0x50 => writing::answer_limited(octets, marks, lent, out, at),
-        _ => print::no_case(out, at),
+        _ => print::put(out, at, b'?'),
     }
 }
 

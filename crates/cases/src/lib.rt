@@ -11,4 +11,3 @@ mod writing;
 
 pub use case::answer;
 pub use print::flush;
-pub use print::text;

@@ -1,7 +1,7 @@
 // The fields of a line. Their octets stand in one buffer, one field behind the other, and field k is what lies from mark
 // k to mark k + 1: a case of n fields has n + 1 marks. So fields are counted from any other one by leaving marks out.
 ghost use mathlib.Core.Path.{_≡_};
-ghost use Prim.Native.Nat.{_-_, _≤_, _<_};
+ghost use Prim.Native.Nat.{_-_, _≤_};
 ghost use lib.ListN.{length};
 
 // The octets up to the end of a field; where another field follows, its place in the line too.
@@ -121,21 +121,4 @@ pub(crate) fn field<'a>(octets: &'a [u8], marks: &[usize], k: usize) -> &'a [u8]
 pub(crate) fn operation(octets: &[u8], marks: &[usize]) -> u8 {
     let first = field(octets, marks, 0);
     if first.len() == 1 { first[0] } else { 0 }
-}
-
-fn wide(x: u8) -> u64
-    ensures { λ r. ⌜ r < 256 ⌝ }
-{
-    x as u64
-}
-
-// A field as a big-endian number; of more than eight octets the last eight.
-pub(crate) fn number(field: &[u8]) -> u64 {
-    let mut x: u64 = 0;
-    let mut i = 0;
-    while i < field.len() {
-        x = x % 0x100_0000_0000_0000 * 256 + wide(field[i]);
-        i += 1;
-    }
-    x
 }

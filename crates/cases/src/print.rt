@@ -1,6 +1,6 @@
 // Answers, into a buffer that is written whenever it is full. A function takes the place for its first octet and answers
 // the place behind its last.
-ghost use Prim.Native.Nat.{_≤_, max};
+ghost use Prim.Native.Nat.{_≤_};
 ghost use lib.ListN.{length};
 use libc::STDERR_FILENO;
 use libc::STDOUT_FILENO;
@@ -29,9 +29,7 @@ pub(crate) fn put(out: &mut [u8], at: usize, b: u8) -> usize
     1
 }
 
-pub fn text(out: &mut [u8], at: usize, s: &[u8]) -> usize
-    ensures { λ r. ⌜ r ≤ max at (length (now (out .entry))) ⌝ }
-{
+pub(crate) fn text(out: &mut [u8], at: usize, s: &[u8]) -> usize {
     let mut next = at;
     let mut i = 0;
     while i < s.len() {
@@ -41,18 +39,14 @@ pub fn text(out: &mut [u8], at: usize, s: &[u8]) -> usize
     next
 }
 
-pub(crate) fn decimal(out: &mut [u8], at: usize, n: u64) -> usize
-    ensures { λ r. ⌜ r ≤ max at (length (now (out .entry))) ⌝ }
-{
+pub(crate) fn decimal(out: &mut [u8], at: usize, n: u64) -> usize {
     let mut digits = [0u8; 20];
     let k = io::decimal(n, &mut digits);
     text(out, at, &digits[..k])
 }
 
 // Without leading zeros.
-pub(crate) fn hex(out: &mut [u8], at: usize, n: u64) -> usize
-    ensures { λ r. ⌜ r ≤ max at (length (now (out .entry))) ⌝ }
-{
+pub(crate) fn hex(out: &mut [u8], at: usize, n: u64) -> usize {
     let mut digits = [0u8; 16];
     let k = io::hex(n, 1, &mut digits);
     text(out, at, &digits[..k])
@@ -67,9 +61,7 @@ fn digit(x: u8) -> u8 {
 }
 
 // Two digits an octet, `-` for none.
-pub(crate) fn octets(out: &mut [u8], at: usize, s: &[u8]) -> usize
-    ensures { λ r. ⌜ r ≤ max at (length (now (out .entry))) ⌝ }
-{
+pub(crate) fn octets(out: &mut [u8], at: usize, s: &[u8]) -> usize {
     if s.len() == 0 {
         return put(out, at, b'-');
     }
@@ -84,48 +76,26 @@ pub(crate) fn octets(out: &mut [u8], at: usize, s: &[u8]) -> usize
     next
 }
 
-// A line that is no case.
-pub(crate) fn no_case(out: &mut [u8], at: usize) -> usize
-    ensures { λ r. ⌜ r ≤ max at (length (now (out .entry))) ⌝ }
-{
-    put(out, at, b'?')
-}
-
-// Lent memory that had to stay as it was has not.
-pub(crate) fn changed(out: &mut [u8], at: usize) -> usize
-    ensures { λ r. ⌜ r ≤ max at (length (now (out .entry))) ⌝ }
-{
-    text(out, at, b"# changed")
-}
-
 // The start of an answer: how many octets were read or written.
-pub(crate) fn given(out: &mut [u8], at: usize, n: usize) -> usize
-    ensures { λ r. ⌜ r ≤ max at (length (now (out .entry))) ⌝ }
-{
+pub(crate) fn given(out: &mut [u8], at: usize, n: usize) -> usize {
     let next = text(out, at, b"= ");
     hex(out, next, n as u64)
 }
 
 // One number more, behind `separator`.
-pub(crate) fn and_number(out: &mut [u8], at: usize, separator: u8, n: u64) -> usize
-    ensures { λ r. ⌜ r ≤ max at (length (now (out .entry))) ⌝ }
-{
+pub(crate) fn and_number(out: &mut [u8], at: usize, separator: u8, n: u64) -> usize {
     let next = put(out, at, separator);
     hex(out, next, n)
 }
 
 // One field of octets more.
-pub(crate) fn and_octets(out: &mut [u8], at: usize, s: &[u8]) -> usize
-    ensures { λ r. ⌜ r ≤ max at (length (now (out .entry))) ⌝ }
-{
+pub(crate) fn and_octets(out: &mut [u8], at: usize, s: &[u8]) -> usize {
     let next = put(out, at, b' ');
     octets(out, next, s)
 }
 
 // The same of the octets of a span. One that reaches outside `s`, as no reader answers it, shows as `?`.
-pub(crate) fn and_span(out: &mut [u8], at: usize, s: &[u8], v: Span) -> usize
-    ensures { λ r. ⌜ r ≤ max at (length (now (out .entry))) ⌝ }
-{
+pub(crate) fn and_span(out: &mut [u8], at: usize, s: &[u8], v: Span) -> usize {
     let start = v.start;
     let len = v.len;
     if s.len() < start {
@@ -139,17 +109,13 @@ pub(crate) fn and_span(out: &mut [u8], at: usize, s: &[u8], v: Span) -> usize
 }
 
 // What a writer has written.
-pub(crate) fn written(out: &mut [u8], at: usize, s: &[u8]) -> usize
-    ensures { λ r. ⌜ r ≤ max at (length (now (out .entry))) ⌝ }
-{
+pub(crate) fn written(out: &mut [u8], at: usize, s: &[u8]) -> usize {
     let next = given(out, at, s.len());
     and_octets(out, next, s)
 }
 
 // The number that document 01 gives a refusal, and its values, each behind `separator`.
-pub(crate) fn refusal(out: &mut [u8], at: usize, separator: u8, e: WireError) -> usize
-    ensures { λ r. ⌜ r ≤ max at (length (now (out .entry))) ⌝ }
-{
+pub(crate) fn refusal(out: &mut [u8], at: usize, separator: u8, e: WireError) -> usize {
     match e {
         WireError::Truncated => decimal(out, at, 1),
         WireError::ShortStrTooLong => decimal(out, at, 2),
@@ -178,9 +144,7 @@ pub(crate) fn refusal(out: &mut [u8], at: usize, separator: u8, e: WireError) ->
     }
 }
 
-pub(crate) fn refused(out: &mut [u8], at: usize, e: WireError) -> usize
-    ensures { λ r. ⌜ r ≤ max at (length (now (out .entry))) ⌝ }
-{
+pub(crate) fn refused(out: &mut [u8], at: usize, e: WireError) -> usize {
     let next = text(out, at, b"! ");
     refusal(out, next, b' ', e)
 }

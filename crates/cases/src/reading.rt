@@ -1,9 +1,13 @@
 // The operations that read one field from its start: 03 short_str, 04 long_str, 05 skip_field_table, 08 to 0b u8 to u64,
 // 0c to 0f i8 to i64, 10 f32, 11 f64.
-ghost use Prim.Native.Nat.{_≤_, max};
-ghost use lib.ListN.{length};
 use crate::line;
 use crate::print;
+use bits::f32_bits;
+use bits::f64_bits;
+use bits::unsigned8;
+use bits::unsigned16;
+use bits::unsigned32;
+use bits::unsigned64;
 use types::Cursor;
 use types::ReadF32;
 use types::ReadF64;
@@ -19,12 +23,6 @@ use types::ReadU64;
 use types::Skipped;
 use types::Span;
 use types::WireError;
-use types::f32_bits;
-use types::f64_bits;
-use types::unsigned8;
-use types::unsigned16;
-use types::unsigned32;
-use types::unsigned64;
 
 // What was read, and the position behind it.
 enum Reading {
@@ -141,11 +139,9 @@ fn read(op: u8, s: &[u8]) -> Reading {
     }
 }
 
-pub(crate) fn answer(op: u8, octets: &[u8], marks: &[usize], out: &mut [u8], at: usize) -> usize
-    ensures { λ r. ⌜ r ≤ max at (length (now (out .entry))) ⌝ }
-{
+pub(crate) fn answer(op: u8, octets: &[u8], marks: &[usize], out: &mut [u8], at: usize) -> usize {
     if line::fields(marks) != 2 {
-        return print::no_case(out, at);
+        return print::put(out, at, b'?');
     }
     let s = line::field(octets, marks, 1);
     match read(op, s) {

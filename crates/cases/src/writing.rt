@@ -1,58 +1,27 @@
 // The operations that write: 35 pack_bits, 36 write_short_str, 37 write_long_str; and 50, one of 36 and 37 into an output
-// of a given size. An operation is added in `well_formed`, `needed` and `write`.
-ghost use Prim.Native.Nat.{_≤_, max};
-ghost use lib.ListN.{length};
+// of a given size.
 use crate::lent;
 use crate::line;
 use crate::print;
+use types::Cursor;
+use types::ReadU64;
 use writers::Written;
 
-// The octets to spare.
-const MARGIN: usize = 16;
-
 // What a writer answers, if it has changed nothing behind what it says that it has written.
-fn judge(w: Written, lent: &[u8], out: &mut [u8], at: usize) -> usize
-    ensures { λ r. ⌜ r ≤ max at (length (now (out .entry))) ⌝ }
-{
+fn judge(w: Written, lent: &[u8], out: &mut [u8], at: usize) -> usize {
     match w {
         Written::Next(n) => {
             if n <= lent.len() && lent::kept(lent, n) {
                 return print::written(out, at, &lent[0..n]);
             }
-            print::changed(out, at)
+            print::text(out, at, b"# changed")
         }
         Written::Refused(e) => {
             if lent::kept(lent, 0) {
                 return print::refused(out, at, e);
             }
-            print::changed(out, at)
+            print::text(out, at, b"# changed")
         }
-    }
-}
-
-// The sum, or the largest number.
-fn sum(a: usize, b: usize) -> usize {
-    if a <= usize::MAX - b {
-        a + b
-    } else {
-        usize::MAX
-    }
-}
-
-// The octets that a writer needs.
-fn needed(op: u8, octets: &[u8], marks: &[usize]) -> usize {
-    let s = line::field(octets, marks, 1);
-    match op {
-        0x36 => sum(s.len(), 1),
-        _ => sum(s.len(), 4),
-    }
-}
-
-// The fields are those of the writer's operation, itself one of them.
-fn well_formed(op: u8, marks: &[usize]) -> bool {
-    match op {
-        0x36..=0x37 => line::fields(marks) == 2,
-        _ => false,
     }
 }
 
@@ -73,21 +42,19 @@ fn answer_lent(
     lent: &mut [u8],
     out: &mut [u8],
     at: usize,
-) -> usize
-    ensures { λ r. ⌜ r ≤ max at (length (now (out .entry))) ⌝ }
-{
-    if !well_formed(op, marks) {
-        return print::no_case(out, at);
+) -> usize {
+    if line::fields(marks) != 2 || op < 0x36 || 0x37 < op {
+        return print::put(out, at, b'?');
     }
     if lent.len() < space {
-        return print::no_case(out, at);
+        return print::put(out, at, b'?');
     }
     lent::fill(&mut lent[0..space]);
     let w = write(op, octets, marks, &mut lent[0..space]);
     judge(w, &lent[0..space], out, at)
 }
 
-// 36 and 37. A writer with octets to spare must not touch them.
+// 36 and 37. A writer with octets to spare, 16 behind the longest length field, must not touch them.
 pub(crate) fn answer(
     op: u8,
     octets: &[u8],
@@ -95,11 +62,15 @@ pub(crate) fn answer(
     lent: &mut [u8],
     out: &mut [u8],
     at: usize,
-) -> usize
-    ensures { λ r. ⌜ r ≤ max at (length (now (out .entry))) ⌝ }
-{
-    let space = sum(needed(op, octets, marks), MARGIN);
-    answer_lent(op, octets, marks, space, lent, out, at)
+) -> usize {
+    let len = line::field(octets, marks, 1).len();
+    if lent.len() < 20 {
+        return print::put(out, at, b'?');
+    }
+    if lent.len() - 20 < len {
+        return print::put(out, at, b'?');
+    }
+    answer_lent(op, octets, marks, len + 20, lent, out, at)
 }
 
 // 50: the space in eight octets, then the case of a writer.
@@ -109,27 +80,20 @@ pub(crate) fn answer_limited(
     lent: &mut [u8],
     out: &mut [u8],
     at: usize,
-) -> usize
-    ensures { λ r. ⌜ r ≤ max at (length (now (out .entry))) ⌝ }
-{
+) -> usize {
     let space = line::field(octets, marks, 1);
     if space.len() != 8 {
-        return print::no_case(out, at);
+        return print::put(out, at, b'?');
     }
     if marks.len() < 3 {
-        return print::no_case(out, at);
+        return print::put(out, at, b'?');
     }
     let inner = &marks[2..];
     let op = line::operation(octets, inner);
-    answer_lent(
-        op,
-        octets,
-        inner,
-        line::number(space) as usize,
-        lent,
-        out,
-        at,
-    )
+    match (Cursor { at: 0 }).u64(space) {
+        ReadU64::Value(n, _) => answer_lent(op, octets, inner, n as usize, lent, out, at),
+        ReadU64::Refused(_) => print::put(out, at, b'?'),
+    }
 }
 
 // Every octet is 00 or 01.
@@ -145,15 +109,13 @@ fn all_flags(s: &[u8]) -> bool {
 }
 
 // 35: eight flags, an octet each.
-pub(crate) fn answer_bits(octets: &[u8], marks: &[usize], out: &mut [u8], at: usize) -> usize
-    ensures { λ r. ⌜ r ≤ max at (length (now (out .entry))) ⌝ }
-{
+pub(crate) fn answer_bits(octets: &[u8], marks: &[usize], out: &mut [u8], at: usize) -> usize {
     let s = line::field(octets, marks, 1);
     if line::fields(marks) != 2 || !all_flags(s) {
-        return print::no_case(out, at);
+        return print::put(out, at, b'?');
     }
     if s.len() != 8 {
-        return print::no_case(out, at);
+        return print::put(out, at, b'?');
     }
     let flags = [
         s[0] == 1,
@@ -165,6 +127,6 @@ pub(crate) fn answer_bits(octets: &[u8], marks: &[usize], out: &mut [u8], at: us
         s[6] == 1,
         s[7] == 1,
     ];
-    let packed = [types::pack_bits(flags)];
+    let packed = [bits::pack_bits(flags)];
     print::written(out, at, &packed)
 }

@@ -16,7 +16,7 @@ use Rattle.types.specs.Answer.{Answer, given, refused, truncated, notUtf8, notW
 use Rattle.types.specs.Octets.{uintAt, octets}
 use Rattle.types.specs.Strings as string
 use Rattle.types.specs.Strings.{octetsOf, spanAt, longStrAt, longStr}
-use Rattle.types.specs.Bits.{bit, packBits}
+use Rattle.bits.specs.Flags.{bit, packBits}
 use Rattle.types.specs.declared.Span.{Span}
 use Rattle.types.proofs.Tests.{leb-yes, leb-no, yes-leb, no-leb, decide, eqb-yes}
 use Rattle.types.proofs.Standing.{Stands, Cut, stands-left, stands-right, cut-split}

@@ -16,7 +16,7 @@ use Rattle.types.specs.Answer.{Answer, given, refused, truncated, notUtf8, tooL
 use Rattle.types.specs.Octets.{uintAt, octets}
 use Rattle.types.specs.Strings.{judgeLength}
 use Rattle.types.specs.Judgement.{test, orElse}
-use Rattle.types.specs.Bits.{bit}
+use Rattle.bits.specs.Flags.{bit}
 use Rattle.types.proofs.Tests.{leb-yes, leb-no, yes-leb, no-leb, decide}
 use Rattle.types.proofs.Standing.{Stands, Cut, stands-left, stands-right, cut-split}
 use Rattle.types.proofs.Chain.{test-none, orElse-none, then-go, need-given, given-next}

@@ -12,7 +12,7 @@ use Rattle.types.specs.Answer.{Refusal, notUtf8}
 use Rattle.types.specs.Octets.{octets}
 use Rattle.types.specs.Strings as string
 use Rattle.types.specs.Strings.{longStr, judgeShortStr, judgeLength}
-use Rattle.types.specs.Bits.{packBits}
+use Rattle.bits.specs.Flags.{packBits}
 use Rattle.types.specs.Judgement.{test, orElse}
 use Rattle.types.specs.Memory.{Outcome}
 use Rattle.writers.specs.Writers.{writeAt}

@@ -1,4 +1,5 @@
 // Answers cases, one to a line of standard input, by a line each on standard output: the crate `cases` has their form.
+use libc::STDERR_FILENO;
 use libc::STDIN_FILENO;
 
 // How many octets a line has that its buffer does not hold.
@@ -78,9 +79,10 @@ fn read_part(
     let mut part = io::large_buffer();
     let got = libc::read(STDIN_FILENO, &mut part);
     if got < 0 {
+        io::write_all(STDERR_FILENO, b"replay: input failed\n");
         return Progress {
             held: 0,
-            pending: cases::text(out, p.pending, b"# input failed\n"),
+            pending: p.pending,
             ended: true,
         };
     }

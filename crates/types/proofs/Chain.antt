@@ -40,3 +40,7 @@ test-none false r o e = let z : _≡_ {A = ℕ} 0 1 = cc in absurd (omega arith)
 pub orElse-none : (a o : Option Refusal) → orElse a o ≡ none → (a ≡ none) × (o ≡ none)
 orElse-none none o e = (refl, e)
 orElse-none (some r) o e = let z : _≡_ {A = ℕ} 0 1 = cc in absurd (omega arith)
+
+-- an answer by another name of its number
+pub by-number : {A : Answer ℕ} {m n next : ℕ} → m ≡ n → given n next ≡ A → given m next ≡ A
+by-number e q = cc

@@ -5,9 +5,8 @@ use mathlib.Core.List.{List}
 use Prim.Native.Nat.{ℕ, _*_, _%_, _≤_, _<_}
 use borrow.Author.Tests.{lt-ltb, le-ltb}
 use lib.Dec.{T}
-use lib.Ieee.{Format, Float, nan, inf, fin, hid, ones, top, fits, isNan, nanBits, ofBits, toBits, ne}
+use lib.Ieee.{Format, Float, hid, ones, top, fits, isNan, nanBits, ofBits, toBits}
 use lib.Ieee.Bits.{nanBits-above, nanBits-is, toBits-ofBits, ofBits-toBits, is-false}
-use lib.Ieee.Compare.{differs-from-itself, nan-differs}
 use Rattle.utf8.specs.Choice.{pick}
 use Rattle.types.specs.Answer.{Refusal, Answer, given, refused, andThen}
 use Rattle.types.specs.Octets.{uintAt}
@@ -30,16 +29,6 @@ module _ (f : Format) (n : ℕ) where
 
   pub below-is-no-nan : n % top f ≤ ones f * hid f → T (not (nanBits f n))
   below-is-no-nan h = subst⁻¹ (λ (b : Bool). T (not b)) (no-nan-pattern h) tt
-
--- a test `x != x` of the code
-pub is-nan : (x : Float) → ne x x ≡ true → x ≡ nan
-is-nan x e = differs-from-itself x (subst⁻¹ T e tt)
-
-pub no-nan : (x : Float) → ne x x ≡ false → T (not (isNan x))
-unfolding isNan
-no-nan nan e = let z : true ≡ false = sym nan-differs ∙ e in subst (λ (b : Bool). T b) z tt
-no-nan (inf s) e = tt
-no-nan (fin s m d) e = tt
 
 -- read and written again: the bits, a NaN's too
 by-pattern : (f : Format) (n : ℕ) (b : Bool) → n < 2 * top f → nanBits f n ≡ b → bitsOf f (pick b (value.nan n) (float (ofBits f n))) ≡ n

@@ -3,8 +3,6 @@ pub mod Tests
 pub mod Chain
 pub mod Arms
 pub mod NumberLaws
-pub mod Signed
-pub mod BitLaws
 pub mod FloatLaws
 pub mod StringLaws
 pub mod Splice

@@ -1,7 +1,7 @@
 -- The document's number and values for every case of every answer of the code.
 use Prim.Native.Nat.{ℕ}
 use Rattle.types.specs.Answer.{Refusal, Answer, given, refused, truncated, shortStrTooLong, unsupportedFieldType, notUtf8, badTape, unknownMethod, notWritten, tooDeep, tooLong, tapeFull, noSpace}
-use Rattle.types.specs.Octets.{twos}
+use Rattle.bits.specs.Signed.{twos}
 use Rattle.types.specs.Floats.{FloatValue, float, nan}
 use Rattle.types.specs.declared.WireError.{WireError}
 use Rattle.types.specs.declared.WireError.the-variants.{Truncated, ShortStrTooLong, UnsupportedFieldType, NotUtf8, BadTape, UnknownMethod, NotWritten, TooDeep, TooLong, TapeFull, NoSpace}

@@ -4,7 +4,6 @@ pub mod Octets
 pub mod Judgement
 pub mod Strings
 pub mod Floats
-pub mod Bits
 pub mod Lookup
 pub mod Memory
 pub mod Records

@@ -1,10 +1,8 @@
--- Numbers of k octets, the most significant first: 0-9-1, 4.2.5.1. Signed ones are two's complement, floats are their bits.
-use Prim.Native.Nat.{ℕ, zero, suc, _+_, _*_, _-_, _/_, _%_, _^_}
+-- Numbers of k octets, the most significant first: 0-9-1, 4.2.5.1.
+use Prim.Native.Nat.{ℕ, zero, suc, _+_, _*_, _/_, _%_}
 use mathlib.Core.List.{List, [], _∷_, _++_}
-use lib.IntN.{ℤ, pos, negsuc}
 use lib.ListN.{length, getD}
-use lib.Dec.{leb, ltb}
-use Rattle.utf8.specs.Choice.{pick}
+use lib.Dec.{leb}
 use Rattle.types.specs.Answer.{Answer, given, truncated, need}
 
 -- the number whose octets stand at at, at + 1, .., at + k - 1
@@ -20,11 +18,3 @@ uintAt k s at = need (leb (at + k) (length s)) truncated (given (numberAt k s at
 abbrev pub octets : ℕ → ℕ → List ℕ
 octets zero n = []
 octets (suc k) n = octets k (n / 256) ++ (n % 256 ∷ [])
-
--- a signed number's two's complement in k bits, and the signed number of one
-abbrev pub twos : ℕ → ℤ → ℕ
-twos k (pos n) = n
-twos k (negsuc n) = 2 ^ k - suc n
-
-abbrev pub signed : ℕ → ℕ → ℤ
-signed k n = pick (ltb n (2 ^ (k - 1))) (pos n) (negsuc (2 ^ k - suc n))

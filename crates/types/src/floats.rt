@@ -1,30 +1,13 @@
 // Floats by their bits: a NaN is answered as its bits, every other pattern as the float.
 ghost use mathlib.Core.Path.{_≡_};
-ghost use lib.Ieee.{binary32, binary64, toBits};
-ghost use Rattle.types.specs.Floats.{floatOf, floatAt};
+ghost use lib.Ieee.{binary32, binary64};
+ghost use Rattle.types.specs.Floats.{floatAt};
 ghost use Rattle.types.specs.AnswerOf.{answerOfF32, answerOfF64};
 use crate::Cursor;
 use crate::ReadF32;
 use crate::ReadF64;
 use crate::ReadU32;
 use crate::ReadU64;
-
-// The bits of x; of the language's one NaN the quiet pattern without payload.
-pub fn f32_bits(x: f32) -> u32
-    ensures { λ r. ⌜ r ≡ toBits binary32 x ⌝ }
-{
-    if x != x { 0x7FC0_0000 } else { f32::to_bits(x) }
-}
-
-pub fn f64_bits(x: f64) -> u64
-    ensures { λ r. ⌜ r ≡ toBits binary64 x ⌝ }
-{
-    if x != x {
-        0x7FF8_0000_0000_0000
-    } else {
-        f64::to_bits(x)
-    }
-}
 
 impl Cursor {
     pub fn f32(self, s: &[u8]) -> ReadF32

@@ -1,20 +1,7 @@
 // The wire types of AMQP 0-9-1: the refusals, a position in lent octets, and what readers answer. All numbers are big-endian.
-mod bits;
 mod floats;
 mod numbers;
 mod strings;
-
-pub use bits::pack_bits;
-pub use floats::f32_bits;
-pub use floats::f64_bits;
-pub use numbers::signed8;
-pub use numbers::signed16;
-pub use numbers::signed32;
-pub use numbers::signed64;
-pub use numbers::unsigned8;
-pub use numbers::unsigned16;
-pub use numbers::unsigned32;
-pub use numbers::unsigned64;
 
 // The eleven refusals, in the order of document 01's two tables.
 pub enum WireError {

@@ -2,7 +2,7 @@
 ghost use mathlib.Core.Path.{_≡_};
 ghost use Prim.Native.Nat.{_+_, _≤_};
 ghost use lib.ListN.{length};
-ghost use Rattle.types.specs.Octets.{numberAt, uintAt, twos};
+ghost use Rattle.types.specs.Octets.{numberAt, uintAt};
 ghost use Rattle.types.specs.AnswerOf.{answerOfNumber, answerOfU8, answerOfI8, answerOfU16, answerOfI16, answerOfU32, answerOfI32, answerOfU64, answerOfI64};
 use crate::Cursor;
 use crate::ReadI8;
@@ -14,6 +14,10 @@ use crate::ReadU16;
 use crate::ReadU32;
 use crate::ReadU64;
 use crate::WireError;
+use bits::signed8;
+use bits::signed16;
+use bits::signed32;
+use bits::signed64;
 
 // A number of some octets, and the position past it.
 enum Number {
@@ -61,94 +65,6 @@ fn read_number(s: &[u8], at: usize, k: usize) -> Number
         return Number::Value(number_of_8(s, at), at + k);
     }
     Number::Value(number_of(s, at, k), at + k)
-}
-
-// The number whose two's complement is n.
-pub fn signed8(n: u8) -> i8
-    ensures { λ r. ⌜ twos 8 r ≡ n ⌝ }
-{
-    if n < 0x80 {
-        n as i8
-    } else {
-        -1 - (0xff - n) as i8
-    }
-}
-
-// The number whose two's complement is n.
-pub fn signed16(n: u16) -> i16
-    ensures { λ r. ⌜ twos 16 r ≡ n ⌝ }
-{
-    if n < 0x8000 {
-        n as i16
-    } else {
-        -1 - (0xffff - n) as i16
-    }
-}
-
-// The number whose two's complement is n.
-pub fn signed32(n: u32) -> i32
-    ensures { λ r. ⌜ twos 32 r ≡ n ⌝ }
-{
-    if n < 0x8000_0000 {
-        n as i32
-    } else {
-        -1 - (0xffff_ffff - n) as i32
-    }
-}
-
-// The number whose two's complement is n.
-pub fn signed64(n: u64) -> i64
-    ensures { λ r. ⌜ twos 64 r ≡ n ⌝ }
-{
-    if n < 0x8000_0000_0000_0000 {
-        n as i64
-    } else {
-        -1 - (0xffff_ffff_ffff_ffff - n) as i64
-    }
-}
-
-// The two's complement of z.
-pub fn unsigned8(z: i8) -> u8
-    ensures { λ r. ⌜ r ≡ twos 8 z ⌝ }
-{
-    if z < 0 {
-        0xff - (-1 - z) as u8
-    } else {
-        z as u8
-    }
-}
-
-// The two's complement of z.
-pub fn unsigned16(z: i16) -> u16
-    ensures { λ r. ⌜ r ≡ twos 16 z ⌝ }
-{
-    if z < 0 {
-        0xffff - (-1 - z) as u16
-    } else {
-        z as u16
-    }
-}
-
-// The two's complement of z.
-pub fn unsigned32(z: i32) -> u32
-    ensures { λ r. ⌜ r ≡ twos 32 z ⌝ }
-{
-    if z < 0 {
-        0xffff_ffff - (-1 - z) as u32
-    } else {
-        z as u32
-    }
-}
-
-// The two's complement of z.
-pub fn unsigned64(z: i64) -> u64
-    ensures { λ r. ⌜ r ≡ twos 64 z ⌝ }
-{
-    if z < 0 {
-        0xffff_ffff_ffff_ffff - (-1 - z) as u64
-    } else {
-        z as u64
-    }
 }
 
 impl Cursor {

@@ -14,8 +14,8 @@ use lib.Ieee.Bits.{toBits-lt}
 use mir.Syntax.{Width, w8, w16, w32, w64}
 use mir.Val.{boolByte, bits, hbits}
 use Rattle.utf8.specs.Choice.{pick}
-use Rattle.types.specs.Octets.{twos, signed}
-use Rattle.types.specs.Bits.{bit}
+use Rattle.bits.specs.Signed.{twos, signed}
+use Rattle.bits.specs.Flags.{bit}
 use Rattle.types.specs.Floats.{FloatValue, float, nan, floatOf, bitsOf}
 use Rattle.types.specs.Lookup.{Row, row, lookup}
 use Rattle.values.specs.Values.{leaf, span, wordsOf, asF32, asF64, f32Value, f64Value, unused, within, decimalOf, FromWords, leafLetters, valueOf}
@@ -23,7 +23,7 @@ use Rattle.types.specs.declared.Span.{Span}
 use Rattle.values.specs.declared.LeafWords.{LeafWords}
 use Rattle.values.specs.declared.FieldValue.{FieldValue}
 use Rattle.values.specs.declared.FieldValue.the-variants as value
-use Rattle.types.proofs.Signed.{twos-lt, signed-twos, twos-signed}
+use Rattle.bits.proofs.SignedLaws.{twos-lt, signed-twos, twos-signed}
 use Rattle.types.proofs.FloatLaws.{bits-back, float-back, nan-back}
 
 -- the machine's truth value is a bit

@@ -7,8 +7,8 @@ use mathlib.Core.List.{List, [], _∷_}
 use lib.Dec.{ltb, eqb}
 use lib.Ieee.{binary32, binary64, toBits}
 use Rattle.utf8.specs.Choice.{pick}
-use Rattle.types.specs.Octets.{twos, signed}
-use Rattle.types.specs.Bits.{bit}
+use Rattle.bits.specs.Signed.{twos, signed}
+use Rattle.bits.specs.Flags.{bit}
 use Rattle.types.specs.Floats.{FloatValue, float, nan, floatOf}
 use Rattle.types.specs.Lookup.{Row, row, lookup}
 use Rattle.types.specs.declared.Span.{Span}

@@ -3,17 +3,17 @@ ghost use mathlib.Core.Path.{_≡_};
 ghost use Prim.Native.Nat.{_%_};
 ghost use Rattle.values.specs.Values.{leaf, span, wordsOf, valueOf, within, unused, decimalOf, f32Value, f64Value};
 ghost use Rattle.values.specs.AnswerOf.{answerOfLeaf};
+use bits::f32_bits;
+use bits::f64_bits;
+use bits::signed8;
+use bits::signed16;
+use bits::signed32;
+use bits::signed64;
+use bits::unsigned8;
+use bits::unsigned16;
+use bits::unsigned32;
+use bits::unsigned64;
 use types::Span;
-use types::f32_bits;
-use types::f64_bits;
-use types::signed8;
-use types::signed16;
-use types::signed32;
-use types::signed64;
-use types::unsigned8;
-use types::unsigned16;
-use types::unsigned32;
-use types::unsigned64;
 
 // A leaf value of a field table: everything but a table and an array. A NaN has a case of its own, with its bits.
 pub enum FieldValue {

@@ -4,15 +4,16 @@ ghost use mathlib.Core.List.{_++_};
 ghost use mathlib.Core.Option.{none};
 ghost use Prim.Native.Nat.{_+_, _≤_};
 ghost use lib.ListN.{length};
-ghost use Rattle.types.specs.Octets.{octets, twos};
+ghost use Rattle.types.specs.Octets.{octets};
+ghost use Rattle.bits.specs.Signed.{twos};
 ghost use Rattle.types.specs.Memory.{splice, outcome};
 ghost use Rattle.writers.specs.Writers.{writeAt, writeUint, writeOctets, writeShortStr, writeLongStr};
 ghost use Rattle.writers.specs.AnswerOf.{answerOfWritten};
+use bits::unsigned8;
+use bits::unsigned16;
+use bits::unsigned32;
+use bits::unsigned64;
 use types::WireError;
-use types::unsigned8;
-use types::unsigned16;
-use types::unsigned32;
-use types::unsigned64;
 use utf8::Scan;
 
 // The position behind what was written.

@@ -6,7 +6,7 @@ use borrow.Author.Tests.{lt-ltb, le-ltb}
 use lib.IntN.{ℤ}
 use mir.Syntax.{w32}
 use Rattle.values.specs.declared.FieldValue.the-variants as value
-use Rattle.types.proofs.Signed.{signed-is}
+use Rattle.bits.proofs.SignedLaws.{signed-is}
 use Rattle.values.proofs.decimal.Statement.{statement}
 use Rattle.values.proofs.decimal.Tie as tie
 

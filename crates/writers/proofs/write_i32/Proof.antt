@@ -3,7 +3,7 @@ use mathlib.Core.Path.{_≡_, ap, _∙_}
 use borrow.Author.Needs.{needs}
 use mir.Syntax.{w32}
 use mir.Val.{toZ, ofZ}
-use Rattle.types.specs.Octets.{twos}
+use Rattle.bits.specs.Signed.{twos}
 use Rattle.writers.proofs.write_i32.Statement.{statement}
 use Rattle.writers.proofs.write_i32.Tie as tie
 

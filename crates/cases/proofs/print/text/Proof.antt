@@ -1,13 +1,13 @@
 -- `cases::print::text` meets its contract. Assumes nothing.
 use mathlib.Core.Path.{_≡_}
-use Prim.Native.Nat.{_-_, _≤_, max}
+use Prim.Native.Nat.{_-_}
 use lib.ListN.{length}
 use borrow.Author.Needs.{needs}
 use Rattle.cases.proofs.print.text.Statement.{statement}
 use Rattle.cases.proofs.print.text.Tie as tie
 
 abbrev Inv-loop : tie.InvT-loop
-Inv-loop out₀ at s next₀ i₀ out next i = (length out ≡ length out₀) × (next ≤ max at (length out₀))
+Inv-loop out₀ at s next₀ i₀ out next i = length out ≡ length out₀
 
 abbrev μ-loop : tie.MeasureT-loop
 μ-loop out₀ at s next₀ i₀ out next i = length s - i

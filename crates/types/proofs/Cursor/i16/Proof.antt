@@ -3,7 +3,8 @@ use mathlib.Core.Path.{sym, ap, _∙_}
 use borrow.Author.Needs.{needs}
 use mir.Syntax.{w16}
 use Rattle.types.specs.AnswerOf.{answerOfU16}
-use Rattle.types.proofs.Signed.{by-number, kept}
+use Rattle.bits.proofs.SignedLaws.{kept}
+use Rattle.types.proofs.Chain.{by-number}
 use Rattle.types.proofs.Cursor.i16.Statement.{statement}
 use Rattle.types.proofs.Cursor.i16.Tie as tie
 

@@ -4,7 +4,7 @@ use Prim.Native.Nat.{ℕ}
 use borrow.Author.Needs.{needs}
 use mir.Syntax.{w8, w16, w32, w64}
 use mir.Val.{toZ, ofZ}
-use Rattle.types.specs.Octets.{twos}
+use Rattle.bits.specs.Signed.{twos}
 use Rattle.values.specs.Values.{leaf, wordsOf}
 use Rattle.values.proofs.ValueLaws.{bool-bit}
 use Rattle.values.proofs.FieldValue.words.Statement.{statement}

@@ -7,12 +7,12 @@ use native.Mathlib.Nat.{mod-eq-of-lt}
 use borrow.Author.Needs.{needs}
 use lib.IntN.{ℤ}
 use mir.Syntax.{w8, w16, w32, w64}
-use Rattle.types.specs.Octets.{signed}
+use Rattle.bits.specs.Signed.{signed}
 use Rattle.values.specs.Values.{unused, f32Value, FromWords, leafLetters, valueOf}
 use Rattle.types.specs.declared.Span.{Span}
 use Rattle.values.specs.declared.FieldValue.the-variants as value
 use Rattle.types.proofs.Arms.{rest}
-use Rattle.types.proofs.Signed.{signed-is}
+use Rattle.bits.proofs.SignedLaws.{signed-is}
 use Rattle.values.proofs.ValueLaws.{at-letter, within-same}
 use Rattle.values.proofs.LeafWords.value.Statement.{statement}
 use Rattle.values.proofs.LeafWords.value.Tie as tie

@@ -1,0 +1,3 @@
+-- The specification of values as bits.
+pub mod Signed
+pub mod Flags
