@@ -16,23 +16,17 @@ pub fn put(words: &mut [u64; 4], code: u32, first: u64, second: u64, third: u64)
     code
 }
 
-// By the numbers and values of document 01's two tables.
 pub fn refuse(words: &mut [u64; 4], e: WireError) -> u32
     ensures { λ r. ⌜ reply r (now (words .exit)) ≡ refusalReply (refusal e) ⌝ }
 {
-    match e {
-        WireError::Truncated => put(words, 1, 0, 0, 0),
-        WireError::ShortStrTooLong => put(words, 2, 0, 0, 0),
-        WireError::UnsupportedFieldType(octet) => put(words, 3, octet as u64, 0, 0),
-        WireError::NotUtf8 => put(words, 4, 0, 0, 0),
-        WireError::BadTape(record) => put(words, 5, record as u64, 0, 0),
-        WireError::UnknownMethod(class, method) => put(words, 6, class as u64, method as u64, 0),
-        WireError::NotWritten(place) => put(words, 7, place as u64, 0, 0),
-        WireError::TooDeep => put(words, 8, 0, 0, 0),
-        WireError::TooLong => put(words, 9, 0, 0, 0),
-        WireError::TapeFull => put(words, 10, 0, 0, 0),
-        WireError::NoSpace => put(words, 11, 0, 0, 0),
-    }
+    let refusal = e.numbered();
+    put(
+        words,
+        refusal.number as u32,
+        refusal.first,
+        refusal.second,
+        0,
+    )
 }
 
 pub fn reply_span(words: &mut [u64; 4], answer: ReadSpan) -> u32

@@ -114,34 +114,18 @@ pub(crate) fn written(out: &mut [u8], at: usize, s: &[u8]) -> usize {
     and_octets(out, next, s)
 }
 
-// The number that document 01 gives a refusal, and its values, each behind `separator`.
+// The number of a refusal and its values, each behind `separator`.
 pub(crate) fn refusal(out: &mut [u8], at: usize, separator: u8, e: WireError) -> usize {
-    match e {
-        WireError::Truncated => decimal(out, at, 1),
-        WireError::ShortStrTooLong => decimal(out, at, 2),
-        WireError::UnsupportedFieldType(letter) => {
-            let next = decimal(out, at, 3);
-            and_number(out, next, separator, letter as u64)
-        }
-        WireError::NotUtf8 => decimal(out, at, 4),
-        WireError::BadTape(record) => {
-            let next = decimal(out, at, 5);
-            and_number(out, next, separator, record as u64)
-        }
-        WireError::UnknownMethod(class, method) => {
-            let next = decimal(out, at, 6);
-            let last = and_number(out, next, separator, class as u64);
-            and_number(out, last, separator, method as u64)
-        }
-        WireError::NotWritten(place) => {
-            let next = decimal(out, at, 7);
-            and_number(out, next, separator, place as u64)
-        }
-        WireError::TooDeep => decimal(out, at, 8),
-        WireError::TooLong => decimal(out, at, 9),
-        WireError::TapeFull => decimal(out, at, 10),
-        WireError::NoSpace => decimal(out, at, 11),
+    let r = e.numbered();
+    let next = decimal(out, at, r.number as u64);
+    if r.count == 0 {
+        return next;
     }
+    let end = and_number(out, next, separator, r.first);
+    if r.count == 1 {
+        return end;
+    }
+    and_number(out, end, separator, r.second)
 }
 
 pub(crate) fn refused(out: &mut [u8], at: usize, e: WireError) -> usize {

@@ -1,10 +1,12 @@
 -- The document's number and values for every case of every answer of the code.
 use Prim.Native.Nat.{ℕ}
+use lib.ListN.{length, getD}
 use Rattle.types.specs.Answer.{Refusal, Answer, given, refused, truncated, shortStrTooLong, unsupportedFieldType, notUtf8, badTape, unknownMethod, notWritten, tooDeep, tooLong, tapeFull, noSpace}
 use Rattle.bits.specs.Signed.{twos}
 use Rattle.types.specs.Floats.{FloatValue, float, nan}
 use Rattle.types.specs.declared.WireError.{WireError}
 use Rattle.types.specs.declared.WireError.the-variants.{Truncated, ShortStrTooLong, UnsupportedFieldType, NotUtf8, BadTape, UnknownMethod, NotWritten, TooDeep, TooLong, TapeFull, NoSpace}
+use Rattle.types.specs.declared.Numbered.{Numbered}
 use Rattle.types.specs.declared.Span.{Span}
 use Rattle.types.specs.declared.ReadSpan.{ReadSpan}
 use Rattle.types.specs.declared.ReadSpan.the-variants as span
@@ -45,6 +47,10 @@ refusal TooDeep = tooDeep
 refusal TooLong = tooLong
 refusal TapeFull = tapeFull
 refusal NoSpace = noSpace
+
+-- a refusal in four numbers: its own, how many values it has, and these
+abbrev pub numbered : Refusal → Numbered
+numbered r = record { number = r .number; count = length (r .values); first = getD (r .values) 0 0; second = getD (r .values) 1 0 }
 
 abbrev pub answerOfNumber : Number → Answer ℕ
 answerOfNumber (number.Value n at) = given n at

@@ -1,6 +1,7 @@
 // The wire types of AMQP 0-9-1: the refusals, a position in lent octets, and what readers answer. All numbers are big-endian.
 mod floats;
 mod numbers;
+mod refusals;
 mod strings;
 
 // The eleven refusals, in the order of document 01's two tables.
@@ -16,6 +17,14 @@ pub enum WireError {
     TooLong,
     TapeFull,
     NoSpace,
+}
+
+// A refusal by its number, and as many values as it has; the others are 0.
+pub struct Numbered {
+    pub number: u8,
+    pub count: u8,
+    pub first: u64,
+    pub second: u64,
 }
 
 // A position in lent octets, by value: it goes in, and the next one comes out with the answer.
