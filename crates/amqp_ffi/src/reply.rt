@@ -19,14 +19,8 @@ pub fn put(words: &mut [u64; 4], code: u32, first: u64, second: u64, third: u64)
 pub fn refuse(words: &mut [u64; 4], e: WireError) -> u32
     ensures { λ r. ⌜ reply r (now (words .exit)) ≡ refusalReply (refusal e) ⌝ }
 {
-    let refusal = e.numbered();
-    put(
-        words,
-        refusal.number as u32,
-        refusal.first,
-        refusal.second,
-        0,
-    )
+    let r = e.numbered();
+    put(words, r.number as u32, r.first, r.second, 0)
 }
 
 pub fn reply_span(words: &mut [u64; 4], answer: ReadSpan) -> u32

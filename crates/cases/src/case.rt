@@ -17,19 +17,19 @@ fn operation(octets: &[u8], marks: &[usize], lent: &mut [u8], out: &mut [u8], at
     }
 }
 
-// Answers the line that the first `n` octets of `line` are.
+// Answers the line that the first `n` octets of `line` are, of up to 32 fields.
 pub fn answer(
     line: &[u8],
     n: usize,
     octets: &mut [u8],
-    marks: &mut [usize],
     lent: &mut [u8],
     out: &mut [u8],
     at: usize,
 ) -> usize
     ensures { λ r. ⌜ r ≤ length (now (out .entry)) ⌝ }
 {
-    let count = line::split(line, n, octets, marks);
+    let mut marks = [0usize; 33];
+    let count = line::split(line, n, octets, &mut marks);
     let end = operation(octets, &marks[0..count], lent, out, at);
     print::put(out, end, b'\n')
 }
