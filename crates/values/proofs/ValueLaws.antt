@@ -3,7 +3,8 @@ use mathlib.Core.Path.{_≡_, refl, sym, ap, _∙_}
 use mathlib.Core.Bool.{Bool, true, false, not}
 use mathlib.Core.Option.{Option, none, some}
 use mathlib.Core.List.{List, [], _∷_}
-use Prim.Native.Nat.{ℕ, zero, suc, _<_, _^_}
+use Prim.Native.Nat.{ℕ, zero, suc, _%_, _<_, _^_}
+use native.Mathlib.Nat.{mod-eq-of-lt}
 use native.Mathlib.Omega.{arith}
 use borrow.Author.Tests.{ltb-true, lt-ltb, eqb-true}
 use lib.Dec.{T, ltb, eqb}
@@ -12,7 +13,7 @@ use lib.Signed.{mag}
 use lib.Ieee.{Format, Float, binary32, binary64, fits, isNan, nanBits, toBits}
 use lib.Ieee.Bits.{toBits-lt}
 use mir.Syntax.{Width, w8, w16, w32, w64}
-use mir.Val.{boolByte, bits, hbits}
+use mir.Val.{boolByte, bits, hbits, ofZ, toZ}
 use Rattle.utf8.specs.Choice.{pick}
 use Rattle.bits.specs.Signed.{twos, signed}
 use Rattle.bits.specs.Flags.{bit}
@@ -23,7 +24,7 @@ use Rattle.types.specs.declared.Span.{Span}
 use Rattle.values.specs.declared.LeafWords.{LeafWords}
 use Rattle.values.specs.declared.FieldValue.{FieldValue}
 use Rattle.values.specs.declared.FieldValue.the-variants as value
-use Rattle.bits.proofs.SignedLaws.{twos-lt, signed-twos, twos-signed}
+use Rattle.bits.proofs.SignedLaws.{twos-lt, signed-twos, twos-signed, signed-is}
 use Rattle.types.proofs.FloatLaws.{bits-back, float-back, nan-back}
 
 -- the machine's truth value is a bit
@@ -44,6 +45,20 @@ within-same limit w {v} {u} h = go (ltb (w .first) limit) refl
     go : (t : Bool) → ltb (w .first) limit ≡ t → pick t (unused (w .second) v) none ≡ pick t (unused (w .second) u) none
     go true e = ap (unused (w .second)) (h (ltb-true (w .first) limit e))
     go false e = refl
+
+-- the rows of signed and of unsigned numbers, over the width: the code takes the low bits first, and the range is judged with them
+module _ (w : Width) (l : ℕ) (words : LeafWords) {A : Option FieldValue} where
+  pub signed-row : (make : ℤ → FieldValue) (z : ℤ) {n : ℕ} → A ≡ within (2 ^ bits w) (words .first) (words .second) (make (toZ w (ofZ w z)))
+      → mag z < 2 ^ hbits w → twos (bits w) z ≡ n → n ≡ words .first % 2 ^ bits w → words .letter ≡ l
+      → lookup (λ a b. none) leafLetters l (words .first) (words .second) ≡ within (2 ^ bits w) (words .first) (words .second) (make (signed (bits w) (words .first)))
+      → A ≡ valueOf words
+  signed-row make z e f s n k r =
+      e ∙ within-same (2 ^ bits w) words (λ h. ap make (signed-is w z f s ∙ ap (signed (bits w)) (n ∙ mod-eq-of-lt h))) ∙ sym r ∙ at-letter l words k
+
+  pub unsigned-row : (make : ℕ → FieldValue) {n : ℕ} → A ≡ within (2 ^ bits w) (words .first) (words .second) (make n) → n ≡ words .first % 2 ^ bits w
+      → words .letter ≡ l → lookup (λ a b. none) leafLetters l (words .first) (words .second) ≡ within (2 ^ bits w) (words .first) (words .second) (make (words .first))
+      → A ≡ valueOf words
+  unsigned-row make e n k r = e ∙ within-same (2 ^ bits w) words (λ h. ap make (n ∙ mod-eq-of-lt h)) ∙ sym r ∙ at-letter l words k
 
 -- Value and words are inverse to each other. A value has the ranges of its types, and its float cases are apart: a float is no NaN,
 -- and the bits of a NaN are a NaN's

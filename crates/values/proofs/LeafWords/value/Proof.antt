@@ -1,19 +1,17 @@
 -- `values::LeafWords::value` meets its contract: each arm is the row of its letter. Assumes nothing.
-use mathlib.Core.Path.{_≡_, sym, ap, _∙_}
+use mathlib.Core.Path.{_≡_, refl, sym, ap, _∙_}
 use mathlib.Core.List.{[], _∷_}
 use mathlib.Core.Option.{none, some}
 use Prim.Native.Nat.{ℕ, _^_}
-use native.Mathlib.Nat.{mod-eq-of-lt}
 use borrow.Author.Needs.{needs}
 use lib.IntN.{ℤ}
 use mir.Syntax.{w8, w16, w32, w64}
-use Rattle.bits.specs.Signed.{signed}
-use Rattle.values.specs.Values.{unused, f32Value, FromWords, leafLetters, valueOf}
+use Rattle.values.specs.Values.{unused, within, f32Value, FromWords, leafLetters, valueOf}
 use Rattle.types.specs.declared.Span.{Span}
 use Rattle.values.specs.declared.FieldValue.the-variants as value
 use Rattle.types.proofs.Arms.{rest}
 use Rattle.bits.proofs.SignedLaws.{signed-is}
-use Rattle.values.proofs.ValueLaws.{at-letter, within-same}
+use Rattle.values.proofs.ValueLaws.{at-letter, signed-row, unsigned-row}
 use Rattle.values.proofs.LeafWords.value.Statement.{statement}
 use Rattle.values.proofs.LeafWords.value.Tie as tie
 
@@ -106,39 +104,27 @@ returns c = c .in-range .ensures ∙ at-letter 116 (c .before .before .args .sel
 
 returns-2 : tie.Need-returns-2
 returns-2 c =
-    c .in-range2 .ensures
-    ∙ within-same (2 ^ 8) (c .before .before .before .before .args .self) (λ h. ap value.I8 (signed-is w8 (c .before .signed8 .result) (c .before .signed8 .ok) (c .before .signed8 .ensures) ∙ ap (signed 8) (c .before .before .low8 .ensures ∙ mod-eq-of-lt h)))
-    ∙ at-letter 98 (c .before .before .before .before .args .self) (c .before .before .before .match .keys2)
+    let s = c .before .signed8 in
+    signed-row w8 98 (c .before .before .before .before .args .self) value.I8 (s .result) (c .in-range2 .ensures) (s .ok) (s .ensures) (c .before .before .low8 .ensures) (c .before .before .before .match .keys2) refl
 
 returns-3 : tie.Need-returns-3
-returns-3 c =
-    c .in-range3 .ensures
-    ∙ within-same (2 ^ 8) (c .before .before .before .args .self) (λ h. ap value.U8 (c .before .low82 .ensures ∙ mod-eq-of-lt h))
-    ∙ at-letter 66 (c .before .before .before .args .self) (c .before .before .match .keys3)
+returns-3 c = unsigned-row w8 66 (c .before .before .before .args .self) value.U8 (c .in-range3 .ensures) (c .before .low82 .ensures) (c .before .before .match .keys3) refl
 
 returns-4 : tie.Need-returns-4
 returns-4 c =
-    c .in-range4 .ensures
-    ∙ within-same (2 ^ 16) (c .before .before .before .before .args .self) (λ h. ap value.I16 (signed-is w16 (c .before .signed16 .result) (c .before .signed16 .ok) (c .before .signed16 .ensures) ∙ ap (signed 16) (c .before .before .low16 .ensures ∙ mod-eq-of-lt h)))
-    ∙ at-letter 115 (c .before .before .before .before .args .self) (c .before .before .before .match .keys4)
+    let s = c .before .signed16 in
+    signed-row w16 115 (c .before .before .before .before .args .self) value.I16 (s .result) (c .in-range4 .ensures) (s .ok) (s .ensures) (c .before .before .low16 .ensures) (c .before .before .before .match .keys4) refl
 
 returns-5 : tie.Need-returns-5
-returns-5 c =
-    c .in-range5 .ensures
-    ∙ within-same (2 ^ 16) (c .before .before .before .args .self) (λ h. ap value.U16 (c .before .low162 .ensures ∙ mod-eq-of-lt h))
-    ∙ at-letter 117 (c .before .before .before .args .self) (c .before .before .match .keys5)
+returns-5 c = unsigned-row w16 117 (c .before .before .before .args .self) value.U16 (c .in-range5 .ensures) (c .before .low162 .ensures) (c .before .before .match .keys5) refl
 
 returns-6 : tie.Need-returns-6
 returns-6 c =
-    c .in-range6 .ensures
-    ∙ within-same (2 ^ 32) (c .before .before .before .before .args .self) (λ h. ap value.I32 (signed-is w32 (c .before .signed32 .result) (c .before .signed32 .ok) (c .before .signed32 .ensures) ∙ ap (signed 32) (c .before .before .low32 .ensures ∙ mod-eq-of-lt h)))
-    ∙ at-letter 73 (c .before .before .before .before .args .self) (c .before .before .before .match .keys6)
+    let s = c .before .signed32 in
+    signed-row w32 73 (c .before .before .before .before .args .self) value.I32 (s .result) (c .in-range6 .ensures) (s .ok) (s .ensures) (c .before .before .low32 .ensures) (c .before .before .before .match .keys6) refl
 
 returns-7 : tie.Need-returns-7
-returns-7 c =
-    c .in-range7 .ensures
-    ∙ within-same (2 ^ 32) (c .before .before .before .args .self) (λ h. ap value.U32 (c .before .low322 .ensures ∙ mod-eq-of-lt h))
-    ∙ at-letter 105 (c .before .before .before .args .self) (c .before .before .match .keys7)
+returns-7 c = unsigned-row w32 105 (c .before .before .before .args .self) value.U32 (c .in-range7 .ensures) (c .before .low322 .ensures) (c .before .before .match .keys7) refl
 
 returns-8 : tie.Need-returns-8
 returns-8 c =
@@ -148,9 +134,8 @@ returns-8 c =
 
 returns-9 : tie.Need-returns-9
 returns-9 c =
-    c .in-range8 .ensures
-    ∙ within-same (2 ^ 32) (c .before .before .before .before .args .self) (λ h. c .before .f32-value .ensures ∙ ap f32Value (c .before .before .low323 .ensures ∙ mod-eq-of-lt h))
-    ∙ at-letter 102 (c .before .before .before .before .args .self) (c .before .before .before .match .keys9)
+    let w = c .before .before .before .before .args .self in
+    unsigned-row w32 102 w f32Value (c .in-range8 .ensures ∙ ap (within (2 ^ 32) (w .first) (w .second)) (c .before .f32-value .ensures)) (c .before .before .low323 .ensures) (c .before .before .before .match .keys9) refl
 
 returns-10 : tie.Need-returns-10
 returns-10 c = c .with-unused2 .ensures ∙ ap (unused (c .before .before .before .args .self .second)) (c .before .f64-value .ensures) ∙ at-letter 100 (c .before .before .before .args .self) (c .before .before .match .keys10)
