@@ -8,26 +8,32 @@ use types::ReadSpan;
 use types::WireError;
 use writers::Written;
 
-// No answer has more than three words.
-pub fn put(words: &mut [u64; 4], code: u32, first: u64, second: u64, third: u64) -> u32
-    ensures { λ r. ⌜ reply r (now (words .exit)) ≡ reply code (first ∷ second ∷ third ∷ 0 ∷ []) ⌝ }
+// A value: the next position, and two words at most.
+pub fn give(words: &mut [u64; 4], next: usize, first: u64, second: u64) -> u32
+    ensures { λ r. ⌜ reply r (now (words .exit)) ≡ reply 0 (next ∷ first ∷ second ∷ 0 ∷ []) ⌝ }
 {
-    *words = [first, second, third, 0];
-    code
+    *words = [next as u64, first, second, 0];
+    0
 }
 
+// A refusal: its number, and two values at most. The common ones have none; kept apart, they cost a reader nothing.
 pub fn refuse(words: &mut [u64; 4], e: WireError) -> u32
     ensures { λ r. ⌜ reply r (now (words .exit)) ≡ refusalReply (refusal e) ⌝ }
 {
     let r = e.numbered();
-    put(words, r.number as u32, r.first, r.second, 0)
+    if r.count == 0 {
+        *words = [0; 4];
+        return r.number as u32;
+    }
+    *words = [r.first, r.second, 0, 0];
+    r.number as u32
 }
 
 pub fn reply_span(words: &mut [u64; 4], answer: ReadSpan) -> u32
     ensures { λ r. ⌜ reply r (now (words .exit)) ≡ replyOf span (answerOfSpan answer) ⌝ }
 {
     match answer {
-        ReadSpan::Value(v, next) => put(words, 0, next.at as u64, v.start as u64, v.len as u64),
+        ReadSpan::Value(v, next) => give(words, next.at, v.start as u64, v.len as u64),
         ReadSpan::Refused(e) => refuse(words, e),
     }
 }
@@ -36,7 +42,7 @@ pub fn reply_written(words: &mut [u64; 4], answer: Written) -> u32
     ensures { λ r. ⌜ reply r (now (words .exit)) ≡ replyOf nothing (answerOfWritten answer) ⌝ }
 {
     match answer {
-        Written::Next(next) => put(words, 0, next as u64, 0, 0),
+        Written::Next(next) => give(words, next, 0, 0),
         Written::Refused(e) => refuse(words, e),
     }
 }

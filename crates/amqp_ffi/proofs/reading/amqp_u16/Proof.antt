@@ -12,11 +12,11 @@ u16-requires c κs = search needs
 enum-known-n : tie.Need-enum-known-n
 enum-known-n c = search needs
 
-cast-put : tie.Need-cast-put
-cast-put c = search needs
+cast-give : tie.Need-cast-give
+cast-give c = search needs
 
-put-requires : tie.Need-put-requires
-put-requires c κs = search needs
+give-requires : tie.Need-give-requires
+give-requires c κs = search needs
 
 enum-known-e : tie.Need-enum-known-e
 enum-known-e c = search needs
@@ -25,7 +25,7 @@ refuse-requires : tie.Need-refuse-requires
 refuse-requires c κs = search needs
 
 returns : tie.Need-returns
-returns c = c .put .ensures ∙ ap (replyOf number) (ap answerOfU16 (sym (c .before .before .before .n .given .1)) ∙ c .before .before .before .before .before .u16 .ensures)
+returns c = c .give .ensures ∙ ap (replyOf number) (ap answerOfU16 (sym (c .before .before .before .n .given .1)) ∙ c .before .before .before .before .before .u16 .ensures)
 
 returns-2 : tie.Need-returns-2
 returns-2 c = c .refuse .ensures ∙ ap (replyOf number) (ap answerOfU16 (sym (c .before .before .before .e .given .1)) ∙ c .before .before .before .before .before .u16 .ensures)
@@ -36,8 +36,8 @@ amqp-u16-spec =
     (tie.spec
     u16-requires
     enum-known-n
-    cast-put
-    put-requires
+    cast-give
+    give-requires
     enum-known-e
     refuse-requires
     returns

@@ -12,8 +12,8 @@ u64-requires c κs = search needs
 enum-known-n : tie.Need-enum-known-n
 enum-known-n c = search needs
 
-put-requires : tie.Need-put-requires
-put-requires c κs = search needs
+give-requires : tie.Need-give-requires
+give-requires c κs = search needs
 
 enum-known-e : tie.Need-enum-known-e
 enum-known-e c = search needs
@@ -22,7 +22,7 @@ refuse-requires : tie.Need-refuse-requires
 refuse-requires c κs = search needs
 
 returns : tie.Need-returns
-returns c = c .put .ensures ∙ ap (replyOf number) (ap answerOfU64 (sym (c .before .before .before .n .given .1)) ∙ c .before .before .before .before .before .u64 .ensures)
+returns c = c .give .ensures ∙ ap (replyOf number) (ap answerOfU64 (sym (c .before .before .before .n .given .1)) ∙ c .before .before .before .before .before .u64 .ensures)
 
 returns-2 : tie.Need-returns-2
 returns-2 c = c .refuse .ensures ∙ ap (replyOf number) (ap answerOfU64 (sym (c .before .before .before .e .given .1)) ∙ c .before .before .before .before .before .u64 .ensures)
@@ -33,7 +33,7 @@ amqp-u64-spec =
     (tie.spec
     u64-requires
     enum-known-n
-    put-requires
+    give-requires
     enum-known-e
     refuse-requires
     returns

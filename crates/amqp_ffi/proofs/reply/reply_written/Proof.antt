@@ -9,8 +9,8 @@ use Rattle.amqp_ffi.proofs.reply.reply_written.Tie as tie
 enum-known-answer : tie.Need-enum-known-answer
 enum-known-answer c = search needs
 
-put-requires : tie.Need-put-requires
-put-requires c κs = search needs
+give-requires : tie.Need-give-requires
+give-requires c κs = search needs
 
 enum-known-answer-2 : tie.Need-enum-known-answer-2
 enum-known-answer-2 c = search needs
@@ -19,7 +19,7 @@ refuse-requires : tie.Need-refuse-requires
 refuse-requires c κs = search needs
 
 returns : tie.Need-returns
-returns c = c .put .ensures ∙ ap (replyOf nothing) (ap answerOfWritten (sym (c .before .before .before .answer .given .1)))
+returns c = c .give .ensures ∙ ap (replyOf nothing) (ap answerOfWritten (sym (c .before .before .before .answer .given .1)))
 
 returns-2 : tie.Need-returns-2
 returns-2 c = c .refuse .ensures ∙ ap (replyOf nothing) (ap answerOfWritten (sym (c .before .before .before .answer2 .given .1)))
@@ -27,4 +27,4 @@ returns-2 c = c .refuse .ensures ∙ ap (replyOf nothing) (ap answerOfWritten (s
 pub reply-written-spec : {M : Type 1} → statement M
 reply-written-spec =
     tie.close
-    (tie.spec enum-known-answer put-requires enum-known-answer-2 refuse-requires returns returns-2)
+    (tie.spec enum-known-answer give-requires enum-known-answer-2 refuse-requires returns returns-2)
