@@ -18,18 +18,11 @@ fn operation(octets: &[u8], marks: &[usize], lent: &mut [u8], out: &mut [u8], at
 }
 
 // Answers the line that the first `n` octets of `line` are, of up to 32 fields.
-pub fn answer(
-    line: &[u8],
-    n: usize,
-    octets: &mut [u8],
-    lent: &mut [u8],
-    out: &mut [u8],
-    at: usize,
-) -> usize
+pub fn answer(line: &mut [u8], n: usize, lent: &mut [u8], out: &mut [u8], at: usize) -> usize
     ensures { λ r. ⌜ r ≤ length (now (out .entry)) ⌝ }
 {
     let mut marks = [0usize; 33];
-    let count = line::split(line, n, octets, &mut marks);
-    let end = operation(octets, &marks[0..count], lent, out, at);
+    let count = line::split(line, n, &mut marks);
+    let end = operation(line, &marks[0..count], lent, out, at);
     print::put(out, end, b'\n')
 }

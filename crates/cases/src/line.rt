@@ -1,5 +1,6 @@
-// The fields of a line. Their octets stand in one buffer, one field behind the other, and field k is what lies from mark
-// k to mark k + 1: a case of n fields has n + 1 marks. So fields are counted from any other one by leaving marks out.
+// The fields of a line. Their octets take the place of the digits, one field behind the other: two digits make an octet, so
+// nothing is overwritten that is still to be read. Field k is what lies from mark k to mark k + 1: a case of n fields has
+// n + 1 marks. So fields are counted from any other one by leaving marks out.
 ghost use mathlib.Core.Path.{_≡_};
 ghost use Prim.Native.Nat.{_-_, _≤_};
 ghost use lib.ListN.{length};
@@ -34,7 +35,7 @@ fn behind(line: &[u8], at: usize, n: usize) -> Decoded {
 }
 
 // The digits of a field, of which there are some, from `from` on; its octets behind the `n` that there are.
-fn digits(line: &[u8], from: usize, octets: &mut [u8], n: usize) -> Decoded {
+fn digits(line: &mut [u8], from: usize, n: usize) -> Decoded {
     let mut i = from;
     let mut count = n;
     while i < line.len() && line[i] != b' ' {
@@ -46,10 +47,10 @@ fn digits(line: &[u8], from: usize, octets: &mut [u8], n: usize) -> Decoded {
         if high == 16 || low == 16 {
             return Decoded::Malformed;
         }
-        if octets.len() <= count {
+        if line.len() <= count {
             return Decoded::Malformed;
         }
-        octets[count] = high % 16 * 16 + low % 16;
+        line[count] = high % 16 * 16 + low % 16;
         count += 1;
         i += 2;
     }
@@ -59,28 +60,23 @@ fn digits(line: &[u8], from: usize, octets: &mut [u8], n: usize) -> Decoded {
     behind(line, i, count)
 }
 
-fn decode(line: &[u8], from: usize, octets: &mut [u8], n: usize) -> Decoded {
+fn decode(line: &mut [u8], from: usize, n: usize) -> Decoded {
     if from < line.len() && line[from] == b'-' {
         return behind(line, from + 1, n);
     }
-    digits(line, from, octets, n)
+    digits(line, from, n)
 }
 
-// Splits the line that the first `end` octets of `line` are: how many marks its fields have, or 0 where it is malformed,
-// longer than `line`, or has more fields than there are marks for.
-pub(crate) fn split(line: &[u8], end: usize, octets: &mut [u8], marks: &mut [usize]) -> usize
+// How many marks the fields of a line have, or 0 where it is malformed or has more fields than there are marks for.
+fn mark_fields(line: &mut [u8], marks: &mut [usize]) -> usize
     ensures { λ r. ⌜ r ≤ length (now (marks .entry)) ⌝ }
 {
-    if line.len() < end {
-        return 0;
-    }
-    let text = &line[0..end];
     let mut from = 0;
     let mut n = 0;
     let mut k = 0;
     while k + 1 < marks.len() {
         marks[k] = n;
-        match decode(text, from, octets, n) {
+        match decode(line, from, n) {
             Decoded::Before(next, count) => {
                 from = next;
                 n = count;
@@ -94,6 +90,16 @@ pub(crate) fn split(line: &[u8], end: usize, octets: &mut [u8], marks: &mut [usi
         }
     }
     0
+}
+
+// Splits the line that the first `end` octets of `line` are; one that is longer than `line` is malformed.
+pub(crate) fn split(line: &mut [u8], end: usize, marks: &mut [usize]) -> usize
+    ensures { λ r. ⌜ r ≤ length (now (marks .entry)) ⌝ }
+{
+    if line.len() < end {
+        return 0;
+    }
+    mark_fields(&mut line[0..end], marks)
 }
 
 // How many fields there are.

@@ -120,22 +120,49 @@ fn of_skipped(r: Skipped) -> Reading {
     }
 }
 
-fn read(op: u8, s: &[u8]) -> Reading {
+fn read_string(op: u8, s: &[u8]) -> Reading {
     let start = Cursor { at: 0 };
     match op {
         0x03 => of_span(start.short_str(s)),
         0x04 => of_span(start.long_str(s)),
-        0x05 => of_skipped(start.skip_field_table(s)),
+        _ => of_skipped(start.skip_field_table(s)),
+    }
+}
+
+fn read_unsigned(op: u8, s: &[u8]) -> Reading {
+    let start = Cursor { at: 0 };
+    match op {
         0x08 => of_u8(start.u8(s)),
         0x09 => of_u16(start.u16(s)),
         0x0a => of_u32(start.u32(s)),
-        0x0b => of_u64(start.u64(s)),
+        _ => of_u64(start.u64(s)),
+    }
+}
+
+fn read_signed(op: u8, s: &[u8]) -> Reading {
+    let start = Cursor { at: 0 };
+    match op {
         0x0c => of_i8(start.i8(s)),
         0x0d => of_i16(start.i16(s)),
         0x0e => of_i32(start.i32(s)),
-        0x0f => of_i64(start.i64(s)),
+        _ => of_i64(start.i64(s)),
+    }
+}
+
+fn read_float(op: u8, s: &[u8]) -> Reading {
+    let start = Cursor { at: 0 };
+    match op {
         0x10 => of_f32(start.f32(s)),
         _ => of_f64(start.f64(s)),
+    }
+}
+
+fn read(op: u8, s: &[u8]) -> Reading {
+    match op {
+        0x03..=0x05 => read_string(op, s),
+        0x08..=0x0b => read_unsigned(op, s),
+        0x0c..=0x0f => read_signed(op, s),
+        _ => read_float(op, s),
     }
 }
 

@@ -24,18 +24,11 @@ fn keep(line: &mut [u8], n: usize, b: u8) -> usize {
 }
 
 // Takes one octet of the input; the newline has its line answered.
-fn take(
-    b: u8,
-    p: Progress,
-    line: &mut [u8],
-    octets: &mut [u8],
-    lent: &mut [u8],
-    out: &mut [u8],
-) -> Progress {
+fn take(b: u8, p: Progress, line: &mut [u8], lent: &mut [u8], out: &mut [u8]) -> Progress {
     if b == b'\n' {
         Progress {
             held: 0,
-            pending: cases::answer(line, p.held, octets, lent, out, p.pending),
+            pending: cases::answer(line, p.held, lent, out, p.pending),
             ended: false,
         }
     } else {
@@ -52,27 +45,20 @@ fn take_part(
     part: &[u8],
     p: Progress,
     line: &mut [u8],
-    octets: &mut [u8],
     lent: &mut [u8],
     out: &mut [u8],
 ) -> Progress {
     let mut now = p;
     let mut i = 0;
     while i < part.len() {
-        now = take(part[i], now, line, octets, lent, out);
+        now = take(part[i], now, line, lent, out);
         i += 1;
     }
     now
 }
 
 // Reads once. Where that fails, what was read of a line is no line.
-fn read_part(
-    p: Progress,
-    line: &mut [u8],
-    octets: &mut [u8],
-    lent: &mut [u8],
-    out: &mut [u8],
-) -> Progress {
+fn read_part(p: Progress, line: &mut [u8], lent: &mut [u8], out: &mut [u8]) -> Progress {
     let mut part = io::large_buffer();
     let got = libc::read(STDIN_FILENO, &mut part);
     if got < 0 {
@@ -91,11 +77,11 @@ fn read_part(
         };
     }
     let n = io::count(got, &part);
-    take_part(&part[0..n], p, line, octets, lent, out)
+    take_part(&part[0..n], p, line, lent, out)
 }
 
 // Reads to the end of the input, in no more than `turns` reads: no contract says that the input ends.
-fn read_all(line: &mut [u8], octets: &mut [u8], lent: &mut [u8], out: &mut [u8]) -> Progress {
+fn read_all(line: &mut [u8], lent: &mut [u8], out: &mut [u8]) -> Progress {
     let mut p = Progress {
         held: 0,
         pending: 0,
@@ -103,29 +89,27 @@ fn read_all(line: &mut [u8], octets: &mut [u8], lent: &mut [u8], out: &mut [u8])
     };
     let mut turns = u64::MAX;
     while turns > 0 && !p.ended {
-        p = read_part(p, line, octets, lent, out);
+        p = read_part(p, line, lent, out);
         turns -= 1;
     }
     p
 }
 
 // The last line may lack its newline.
-fn replay(line: &mut [u8], octets: &mut [u8], lent: &mut [u8], out: &mut [u8]) {
-    let p = read_all(line, octets, lent, out);
+fn replay(line: &mut [u8], lent: &mut [u8], out: &mut [u8]) {
+    let p = read_all(line, lent, out);
     if p.held == 0 {
         cases::flush(out, p.pending);
         return;
     }
-    let end = cases::answer(line, p.held, octets, lent, out, p.pending);
+    let end = cases::answer(line, p.held, lent, out, p.pending);
     cases::flush(out, end);
 }
 
-// Buffers are made once: one that is made for each case would be cleared for each case. A line of 400,000 octets has at
-// most 200,000 in its fields.
+// Buffers are made once: one that is made for each case would be cleared for each case.
 fn main() {
     let mut line = [0u8; 400_000];
-    let mut octets = [0u8; 200_000];
     let mut lent = [0u8; 262_144];
     let mut out = [0u8; 65_536];
-    replay(&mut line, &mut octets, &mut lent, &mut out);
+    replay(&mut line, &mut lent, &mut out);
 }

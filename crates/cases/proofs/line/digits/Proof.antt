@@ -7,10 +7,10 @@ use Rattle.cases.proofs.line.digits.Statement.{statement}
 use Rattle.cases.proofs.line.digits.Tie as tie
 
 abbrev Inv-loop : tie.InvT-loop
-Inv-loop line from octets₀ n i₀ count₀ octets i count = length octets ≡ length octets₀
+Inv-loop line₀ from n i₀ count₀ line i count = length line ≡ length line₀
 
 abbrev μ-loop : tie.MeasureT-loop
-μ-loop line from octets₀ n i₀ count₀ octets i count = length line - i
+μ-loop line₀ from n i₀ count₀ line i count = length line₀ - i
 
 pub digits-spec : {M : Type 1} → statement M
 digits-spec =
