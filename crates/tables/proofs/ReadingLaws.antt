@@ -243,7 +243,7 @@ module _ (letters : Letters) where
   value-move zero = value-from zero (λ b s p room t n e. let z : _≡_ {A = ℕ} 0 1 = cc in absurd (omega arith))
   value-move (suc d) = value-from (suc d) (container-move (valueAt letters d) (value-move d))
 
-  -- A table has as many records at most as octets less 4 (request A.9), and they are in the room
+  -- A table has as many records at most as octets less 4, and they are in the room
   pub table-move : (s : List ℕ) (p room : ℕ) (t : LocatedTable) (n : ℕ) → tableAt letters s p room ≡ given t n → Moved s (p + 4) room n (size t)
   unfolding tableAt
   table-move s p room t n e = container-move (valueAt letters 15) (value-move 15) true s p room t n e

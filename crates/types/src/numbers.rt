@@ -40,7 +40,7 @@ fn number_of(s: &[u8], at: usize, k: usize) -> u64
     n
 }
 
-// Eight octets as two numbers of four: the compiler makes one load of them, and eight of the loop.
+// Eight octets as two numbers of four: of these the compiler makes a single load, of the loop over eight it makes eight.
 fn number_of_8(s: &[u8], at: usize) -> u64
     requires { ⌜ at + 8 ≤ length (now s) ⌝ }
     ensures { λ r. ⌜ r ≡ numberAt 8 (now (s .entry)) at ⌝ }
