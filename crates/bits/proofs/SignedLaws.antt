@@ -1,6 +1,6 @@
 -- Signed numbers and their two's complement, in the code's two branches, over the width w.
 use mathlib.Core.Path.{_≡_, refl, sym, ap, _∙_, subst, subst⁻¹}
-use mathlib.Core.Bool.{Bool, true, false}
+use mathlib.Core.Bool.{Bool, true, false, cond}
 use Prim.Native.Nat.{ℕ, zero, suc, _-_, _^_, _≤_, _<_}
 use native.Mathlib.Nat.{zero-add}
 use native.Mathlib.Omega.{arith}
@@ -11,7 +11,6 @@ use lib.Signed.{mag, ltZ, nonNeg}
 use mir.Syntax.{Width, w8, w16, w32, w64, w128}
 use mir.Val.{bits, hbits, Fits, SFits, ofZ, toZ}
 use mir.ValLaws.{toZ-pos, toZ-ofZ, pow-bits, half-full}
-use Rattle.utf8.specs.Choice.{pick}
 use Rattle.bits.specs.Signed.{twos, signed}
 
 -- From the two's complement to the number: below half the power it is itself, and from there up it is -1 - (2 ^ bits w - 1 - n)
@@ -121,7 +120,7 @@ signed-twos w (negsuc m) f =
 pub twos-signed : (w : Width) (n : ℕ) → n < 2 ^ bits w → twos (bits w) (signed (bits w) n) ≡ n
 twos-signed w n f = go (ltb n (2 ^ (bits w - 1))) refl
   where
-    go : (b : Bool) → ltb n (2 ^ (bits w - 1)) ≡ b → twos (bits w) (pick b (pos n) (negsuc (2 ^ bits w - suc n))) ≡ n
+    go : (b : Bool) → ltb n (2 ^ (bits w - 1)) ≡ b → twos (bits w) (cond b (pos n) (negsuc (2 ^ bits w - suc n))) ≡ n
     go true e = refl
     go false e = omega arith
 

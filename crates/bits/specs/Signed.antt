@@ -1,9 +1,8 @@
 -- Signed numbers in two's complement: document 01, "types.rs: octets and strings".
 use Prim.Native.Nat.{ℕ, suc, _-_, _^_}
-use mathlib.Core.Bool.{Bool, true, false}
+use mathlib.Core.Bool.{Bool, true, false, cond}
 use lib.Dec.{ltb}
 use lib.IntN.{ℤ, pos, negsuc}
-use Rattle.utf8.specs.Choice.{pick}
 
 -- a signed number's two's complement in k bits, and the signed number of one
 abbrev pub twos : ℕ → ℤ → ℕ
@@ -11,4 +10,4 @@ twos k (pos n) = n
 twos k (negsuc n) = 2 ^ k - suc n
 
 abbrev pub signed : ℕ → ℕ → ℤ
-signed k n = pick (ltb n (2 ^ (k - 1))) (pos n) (negsuc (2 ^ k - suc n))
+signed k n = cond (ltb n (2 ^ (k - 1))) (pos n) (negsuc (2 ^ k - suc n))

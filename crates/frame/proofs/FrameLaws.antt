@@ -1,6 +1,6 @@
 -- A frame is read back as it was written, and cut short it is Truncated.
 use mathlib.Core.Path.{_≡_, refl, sym, ap, _∙_, subst}
-use mathlib.Core.Bool.{Bool, true, false}
+use mathlib.Core.Bool.{Bool, true, false, cond}
 use mathlib.Core.Option.{Option, none, some}
 use mathlib.Core.List.{List, [], _∷_, _++_}
 use Prim.Native.Nat.{ℕ, zero, suc, _+_, _-_, _*_, _^_, _/_, _%_, _≤_, _<_}
@@ -9,7 +9,6 @@ use native.Mathlib.Nat.{add-assoc, add-zero}
 use lib.ListN.{length, take, drop, getD, length-append, length-take}
 use lib.Seq.{length-take-le}
 use lib.Dec.{leb, ltb, eqb}
-use Rattle.utf8.specs.Choice.{pick}
 use Rattle.types.specs.Answer.{Answer, given, refused, Refusal, truncated, notWritten, unsupportedFieldType, tapeFull, andThen, need}
 use Rattle.types.specs.Octets.{numberAt, octets}
 use Rattle.types.specs.Strings.{octetsOf}
@@ -257,9 +256,9 @@ module _ (letters : Letters) where
       none-of a n z h = let w = given-value a x n q h in rw (← w) (omega arith)
 
       go : (a b c : Bool)
-          → pick a (andThen (commandAt letters s p room) (λ x q. given (command x) q))
-          (pick b (andThen (headerAt letters s p room) (λ x q. given (header x) q))
-          (pick c (given (body (record { start = p; len = length s - p })) (length s)) (need (leb (length s) p) (notWritten p) (given heartbeat p)))) ≡ given x q
+          → cond a (andThen (commandAt letters s p room) (λ x q. given (command x) q))
+          (cond b (andThen (headerAt letters s p room) (λ x q. given (header x) q))
+          (cond c (given (body (record { start = p; len = length s - p })) (length s)) (need (leb (length s) p) (notWritten p) (given heartbeat p)))) ≡ given x q
           → length (payloadWithTape ch x .tape) ≤ room
       go true b c h =
           then-go (commandAt letters s p room) _ x q h

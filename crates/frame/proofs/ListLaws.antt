@@ -1,6 +1,6 @@
 -- The laws of self-delimiting frames, from what one frame's writer and one step of the walk promise.
 use mathlib.Core.Path.{_≡_, refl, sym, ap, _∙_, subst}
-use mathlib.Core.Bool.{Bool, true, false}
+use mathlib.Core.Bool.{Bool, true, false, cond}
 use mathlib.Core.Option.{Option, none, some}
 use mathlib.Core.List.{List, [], _∷_, _++_, map, append-assoc, append-nil, append-cancel-left, IsPrefix}
 use mathlib.Core.Logic.{_↔_}
@@ -10,7 +10,6 @@ use native.Mathlib.Nat.{add-zero, zero-add, add-assoc}
 use lib.ListN.{length, take, drop, length-append, length-drop, take-append-drop}
 use lib.Dec.{leb, ltb}
 use lib.Seq.{take-append-seam, length-take-le}
-use Rattle.utf8.specs.Choice.{pick}
 use Rattle.types.specs.Answer.{Refusal, truncated, Answer, given, refused}
 use Rattle.types.specs.Records.{concatMap}
 use Rattle.types.proofs.Tests.{leb-yes, leb-no, yes-leb, no-leb, decide}
@@ -28,7 +27,7 @@ recordsOf (given x n) = x .tape
 recordsOf (refused r) = []
 
 abbrev pub partLeft : Bool → Option Refusal
-partLeft b = pick b (some truncated) none
+partLeft b = cond b (some truncated) none
 
 -- A kind of frame F as its writer has it; L as a step gives it, over tape records; M, its meaning.
 pub record Framing (F L M : Type 0) : Type 1 where

@@ -1,6 +1,6 @@
 -- The theorem of the two senders holds of any two lists of frames that the writers accept: document 01, "frame.rs: frames and the walk".
 use mathlib.Core.Path.{_≡_, refl, sym, ap, _∙_, subst}
-use mathlib.Core.Bool.{Bool, true, false}
+use mathlib.Core.Bool.{Bool, true, false, cond}
 use mathlib.Core.Option.{Option, none, some}
 use mathlib.Core.List.{List, [], _∷_, _++_, map, append-nil, IsPrefix}
 use Prim.Native.Nat.{ℕ, zero, suc, _+_, _-_, _*_, _/_, _^_, _≤_, _<_}
@@ -8,7 +8,6 @@ use native.Mathlib.Omega.{arith}
 use lib.ListN.{length, take, drop, length-append, take-append-drop}
 use lib.Seq.{length-take-le, take-all}
 use lib.Dec.{leb, ltb}
-use Rattle.utf8.specs.Choice.{pick}
 use Rattle.types.specs.Answer.{Answer, given, refused, Refusal, truncated, tooLong}
 use Rattle.types.specs.Strings.{judgeLength}
 use Rattle.types.specs.Judgement.{test, orElse}

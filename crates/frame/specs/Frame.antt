@@ -1,10 +1,9 @@
 -- Frames: 0-9-1, 4.2.3, and document 01, "frame.rs: frames and the walk". Type octet, channel, size, payload, frame end.
-use mathlib.Core.Bool.{Bool, true, false}
+use mathlib.Core.Bool.{Bool, true, false, cond}
 use mathlib.Core.List.{List, [], _∷_, _++_}
 use Prim.Native.Nat.{ℕ, _+_}
 use lib.ListN.{length, getD}
 use lib.Dec.{leb, eqb}
-use Rattle.utf8.specs.Choice.{pick}
 use Rattle.types.specs.Answer.{Answer, given, truncated, unsupportedFieldType, need}
 use Rattle.types.specs.Octets.{numberAt, octets}
 use Rattle.types.specs.Strings.{judgeLength}
@@ -13,7 +12,7 @@ use Rattle.writers.specs.Writers.{writeAt}
 
 -- 1 method, 2 header, 3 body, 8 heartbeat
 abbrev pub isFrameType : ℕ → Bool
-isFrameType t = pick (eqb t 1) true (pick (eqb t 2) true (pick (eqb t 3) true (eqb t 8)))
+isFrameType t = cond (eqb t 1) true (cond (eqb t 2) true (cond (eqb t 3) true (eqb t 8)))
 
 -- CE
 abbrev pub frameEnd : ℕ

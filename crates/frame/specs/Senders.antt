@@ -1,13 +1,12 @@
 -- Two senders' lists of frames, and the theorem of the two senders, about any two lists and any cut: document 01, "frame.rs: frames and the walk".
 use mathlib.Core.Path.{_≡_}
-use mathlib.Core.Bool.{Bool, true, false}
+use mathlib.Core.Bool.{Bool, true, false, cond}
 use mathlib.Core.Option.{Option, none, some}
 use mathlib.Core.List.{List, [], _∷_, _++_, map, IsPrefix}
 use mathlib.Core.Logic.{_↔_}
 use Prim.Native.Nat.{ℕ, suc, _+_, _^_, _≤_, _<_}
 use lib.ListN.{length, take}
 use lib.Dec.{leb, ltb}
-use Rattle.utf8.specs.Choice.{pick}
 use Rattle.types.specs.Answer.{Refusal, truncated}
 use Rattle.types.specs.Strings.{judgeLength}
 use Rattle.types.specs.Judgement.{orElse}
@@ -66,7 +65,7 @@ total c (f ∷ fs) = c f + total c fs
 -- the frames of a list, the first of which begins at p, that end at n or earlier
 unfoldable pub upTo : {F : Type 0} → (F → List ℕ) → ℕ → ℕ → List F → List F
 upTo octetsOf p n [] = []
-upTo octetsOf p n (f ∷ fs) = pick (leb (p + length (octetsOf f)) n) (f ∷ upTo octetsOf (p + length (octetsOf f)) n fs) []
+upTo octetsOf p n (f ∷ fs) = cond (leb (p + length (octetsOf f)) n) (f ∷ upTo octetsOf (p + length (octetsOf f)) n fs) []
 
 module _ (letters : Letters) where
   abbrev pub sentPayloadMeaning : Payload Sent (List ℕ) → Payload Meaning (List ℕ)
@@ -122,7 +121,7 @@ module _ (letters : Letters) where
     pub frames : w .frames ≡ length gs
     pub consumed : w .consumed ≡ length (octets gs)
     -- Truncated exactly when a part of a frame is left, and otherwise no refusal
-    pub refusal : w .refusal ≡ pick (ltb (length (octets gs)) n) (some truncated) none
+    pub refusal : w .refusal ≡ cond (ltb (length (octets gs)) n) (some truncated) none
 
   -- The theorem of the two senders
   pub record TwoSenders (xs ys : List SentFrame) : Type 0 where

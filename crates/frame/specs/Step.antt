@@ -1,11 +1,10 @@
 -- The reading step: a frame is decoded, then its payload is read as command, content header, body or heartbeat. Document 01, "frame.rs: frames
 -- and the walk".
-use mathlib.Core.Bool.{Bool, true, false}
+use mathlib.Core.Bool.{Bool, true, false, cond}
 use mathlib.Core.List.{List, [], _∷_, _++_}
 use Prim.Native.Nat.{ℕ, _+_, _-_}
 use lib.ListN.{length, take}
 use lib.Dec.{leb, ltb, eqb}
-use Rattle.utf8.specs.Choice.{pick}
 use Rattle.types.specs.Answer.{Answer, given, notWritten, tapeFull, andThen, need}
 use Rattle.types.specs.Strings.{octetsOf}
 use Rattle.types.specs.declared.Span.{Span}
@@ -40,9 +39,9 @@ module _ (letters : Letters) where
   -- a payload of type t, from p to the end of the octets
   unfoldable pub payloadAt : ℕ → List ℕ → ℕ → ℕ → Answer (Payload Located Span)
   payloadAt t s p room =
-      pick (eqb t 1) (andThen (commandAt letters s p room) (λ x q. given (command x) q))
-      (pick (eqb t 2) (andThen (headerAt letters s p room) (λ x q. given (header x) q))
-      (pick (eqb t 3) (given (body (record { start = p; len = length s - p })) (length s))
+      cond (eqb t 1) (andThen (commandAt letters s p room) (λ x q. given (command x) q))
+      (cond (eqb t 2) (andThen (headerAt letters s p room) (λ x q. given (header x) q))
+      (cond (eqb t 3) (given (body (record { start = p; len = length s - p })) (length s))
       (need (leb (length s) p) (notWritten p) (given heartbeat p))))
 
   -- the frame f with its payload read: the payload's readers are given the octets up to its end, so that places count from the first octet

@@ -1,12 +1,11 @@
 -- The walk: the step repeated from octet 0, each table taking the tape after the one before; the register; the list returned.
 -- Document 01, "frame.rs: frames and the walk".
 use mathlib.Core.Option.{Option, none, some}
-use mathlib.Core.Bool.{Bool, true, false}
+use mathlib.Core.Bool.{Bool, true, false, cond}
 use mathlib.Core.List.{List, [], _∷_, _++_}
 use Prim.Native.Nat.{ℕ, zero, suc, _+_, _-_}
 use lib.ListN.{length, take, drop, getD}
 use lib.Dec.{ltb}
-use Rattle.utf8.specs.Choice.{pick}
 use Rattle.types.specs.Answer.{Refusal, Answer, given, refused}
 use Rattle.types.specs.Memory.{splice}
 use Rattle.types.specs.Records.{RecordFormat, concatMap, firstRecords, recordCount, records}
@@ -57,7 +56,7 @@ afterStep p used (refused r) rest = ended p (some r)
 unfoldable pub walkFrom : {A : Type 0} → WalkStep A → ℕ → List ℕ → ℕ → ℕ → ℕ → ℕ → WalkResult
 walkFrom step zero s p slots room used = ended p none
 walkFrom step (suc fuel) s p slots room used =
-    pick (ltb p (length s))
+    cond (ltb p (length s))
     (afterStep p used (step s p slots room) (λ rs n. walkFrom step fuel s n (slots - 1) (room - length rs) (used + length rs)))
     (ended p none)
 

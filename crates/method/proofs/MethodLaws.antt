@@ -1,6 +1,6 @@
 -- Commands and content headers that their writers accept are read back as they were written.
 use mathlib.Core.Path.{_≡_, refl, sym, ap, _∙_, subst}
-use mathlib.Core.Bool.{Bool, true, false, _&&_}
+use mathlib.Core.Bool.{Bool, true, false, _&&_, cond}
 use mathlib.Core.Option.{Option, none, some}
 use mathlib.Core.List.{List, [], _∷_, _++_}
 use Prim.Native.Nat.{ℕ, zero, suc, _+_, _-_, _*_, _^_, _/_, _%_, _≤_, _<_}
@@ -10,7 +10,6 @@ use lib.ListN.{length, take, drop, length-append}
 use lib.Dec.{leb, ltb, eqb}
 use lib.Pow.{pow-pos}
 use lib.Arith.{digits-mod}
-use Rattle.utf8.specs.Choice.{pick}
 use Rattle.utf8.specs.Utf8.{utf8}
 use Rattle.types.specs.Answer.{Answer, given, refused, truncated, notUtf8, tooLong, notWritten, andThen, need}
 use Rattle.types.specs.Octets.{uintAt, octets}
@@ -77,7 +76,7 @@ small-in (r ∷ rs) c m e =
     let a = and-true (every smallPlaces (r .fields)) (every (λ y. every smallPlaces (y .fields)) rs) e in
     go (a .0) (eqb c (r .class)) (eqb m (r .method)) (small-in rs c m (a .1))
   where
-    go : Small (r .fields) → (p q : Bool) → Small (orNone (fieldsIn rs c m)) → Small (orNone (pick p (pick q (some (r .fields)) (fieldsIn rs c m)) (fieldsIn rs c m)))
+    go : Small (r .fields) → (p q : Bool) → Small (orNone (fieldsIn rs c m)) → Small (orNone (cond p (cond q (some (r .fields)) (fieldsIn rs c m)) (fieldsIn rs c m)))
     go s true true ih = s
     go s true false ih = ih
     go s false q ih = ih

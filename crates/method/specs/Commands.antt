@@ -1,10 +1,9 @@
 -- The command table, line by line as in document 01, "method.rs: commands".
-use mathlib.Core.Bool.{Bool, true, false}
+use mathlib.Core.Bool.{Bool, true, false, cond}
 use mathlib.Core.Option.{Option, none, some}
 use mathlib.Core.List.{List, [], _∷_, _++_}
 use Prim.Native.Nat.{ℕ}
 use lib.Dec.{eqb}
-use Rattle.utf8.specs.Choice.{pick}
 use Rattle.types.specs.Strings.{shortStr, longStr}
 use Rattle.method.specs.Fields as field
 use Rattle.method.specs.Fields.{Kind, number, bits, login, Field, fixed, arg, Args}
@@ -90,7 +89,7 @@ commands =
 
 abbrev pub fieldsIn : List Row → ℕ → ℕ → Option (List Field)
 fieldsIn [] c m = none
-fieldsIn (r ∷ rs) c m = pick (eqb c (r .class)) (pick (eqb m (r .method)) (some (r .fields)) (fieldsIn rs c m)) (fieldsIn rs c m)
+fieldsIn (r ∷ rs) c m = cond (eqb c (r .class)) (cond (eqb m (r .method)) (some (r .fields)) (fieldsIn rs c m)) (fieldsIn rs c m)
 
 abbrev pub isSome : Option (List Field) → Bool
 isSome none = false

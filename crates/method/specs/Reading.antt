@@ -1,11 +1,10 @@
 -- The command reader and the content header reader: document 01, "method.rs". A reader is given the octets up to the payload's end.
-use mathlib.Core.Bool.{Bool, true, false}
+use mathlib.Core.Bool.{Bool, true, false, cond}
 use mathlib.Core.Option.{Option, none, some}
 use mathlib.Core.List.{List, [], _∷_, _++_}
 use Prim.Native.Nat.{ℕ, suc, _+_, _-_, _/_, _%_}
 use lib.ListN.{length, take, drop}
 use lib.Dec.{leb, ltb, eqb}
-use Rattle.utf8.specs.Choice.{pick}
 use Rattle.utf8.specs.Utf8.{utf8}
 use Rattle.types.specs.Answer.{Answer, given, refused, notUtf8, notWritten, unknownMethod, andThen, need}
 use Rattle.types.specs.Octets.{uintAt}
@@ -24,7 +23,7 @@ unfoldable pub same : List ℕ → List ℕ → Bool
 same [] [] = true
 same [] (y ∷ ys) = false
 same (x ∷ xs) [] = false
-same (x ∷ xs) (y ∷ ys) = pick (eqb x y) (same xs ys) false
+same (x ∷ xs) (y ∷ ys) = cond (eqb x y) (same xs ys) false
 
 -- the flags of a bit octet n in the places of the arguments; none if a bit without an argument is set
 abbrev pub withFlag : Bool → Option (List Bool) → Option (List Bool)
@@ -32,8 +31,8 @@ withFlag f none = none
 withFlag f (some flags) = some (f ∷ flags)
 
 unfoldable pub flagsIn : List Bool → ℕ → Option (List Bool)
-flagsIn [] n = pick (eqb n 0) (some []) none
-flagsIn (false ∷ places) n = pick (eqb (n % 2) 1) none (flagsIn places (n / 2))
+flagsIn [] n = cond (eqb n 0) (some []) none
+flagsIn (false ∷ places) n = cond (eqb (n % 2) 1) none (flagsIn places (n / 2))
 flagsIn (true ∷ places) n = withFlag (eqb (n % 2) 1) (flagsIn places (n / 2))
 
 -- a field at p whose value is none is NotWritten there
@@ -48,12 +47,12 @@ oneMore (some n) = some (suc n)
 
 unfoldable pub untilNul : List ℕ → Option ℕ
 untilNul [] = none
-untilNul (x ∷ xs) = pick (eqb x 0) (some 0) (oneMore (untilNul xs))
+untilNul (x ∷ xs) = cond (eqb x 0) (some 0) (oneMore (untilNul xs))
 
 -- the length of the user in a login string: a NUL, the user up to the next NUL, the password
 abbrev pub userLength : List ℕ → Option ℕ
 userLength [] = none
-userLength (x ∷ xs) = pick (eqb x 0) (untilNul xs) none
+userLength (x ∷ xs) = cond (eqb x 0) (untilNul xs) none
 
 abbrev pub loginSpans : Span → ℕ → Login Span
 loginSpans v m =

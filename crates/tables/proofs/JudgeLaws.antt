@@ -1,6 +1,6 @@
 -- A tape that passes the writer's judgement means a forest that fits, with a record for each value.
 use mathlib.Core.Path.{_≡_, refl, sym, ap, _∙_, subst}
-use mathlib.Core.Bool.{Bool, true, false, _&&_}
+use mathlib.Core.Bool.{Bool, true, false, _&&_, cond}
 use mathlib.Core.Option.{Option, some}
 use mathlib.Core.List.{List, [], _∷_, _++_}
 use Prim.Native.Nat.{ℕ, zero, suc, _+_, _-_, _*_, _^_, _%_, _/_, _≤_, _<_}
@@ -8,7 +8,6 @@ use native.Mathlib.Omega.{arith}
 use lib.ListN.{length, take, drop, length-append, length-take, length-drop}
 use lib.Seq.{length-take-le, take-all}
 use lib.Dec.{leb, ltb, eqb, eqb→eq}
-use Rattle.utf8.specs.Choice.{pick}
 use Rattle.types.specs.Answer.{Refusal, badTape, tooDeep}
 use Rattle.types.specs.Octets.{octets}
 use Rattle.types.specs.Strings.{octetsOf, judgeShortStr}
@@ -44,7 +43,7 @@ unfolding kindOf
 letter-octet [] c a e = let z : _≡_ {A = ℕ} 0 1 = cc in absurd (omega arith)
 letter-octet (l ∷ ls) c a e = go (letter-octet ls c (a .1)) (eqb c (l .octet)) refl e
   where
-    go : (isKnown (kindOf ls c) ≡ true → c < 256) → (b : Bool) → eqb c (l .octet) ≡ b → isKnown (pick b (l .value) (kindOf ls c)) ≡ true → c < 256
+    go : (isKnown (kindOf ls c) ≡ true → c < 256) → (b : Bool) → eqb c (l .octet) ≡ b → isKnown (cond b (l .value) (kindOf ls c)) ≡ true → c < 256
     go ih true q h = omega (arith, eqb-is c (l .octet) q, a .0)
     go ih false q h = ih h
 

@@ -1,9 +1,8 @@
 -- Reading a table, an array or a lone value at a position: 0-9-1, 4.2.5.5, and document 01, "types.rs: tables and the tape".
 use Prim.Native.Nat.{ℕ, zero, suc, _+_, _-_, min}
-use mathlib.Core.Bool.{Bool, true, false}
+use mathlib.Core.Bool.{Bool, true, false, cond}
 use mathlib.Core.List.{List}
 use lib.Dec.{ltb}
-use Rattle.utf8.specs.Choice.{pick}
 use Rattle.types.specs.Answer.{Answer, given, refused, unsupportedFieldType, tooDeep, tapeFull, andThen, need}
 use Rattle.types.specs.Octets.{uintAt}
 use Rattle.types.specs.Strings.{longStrAt, shortStrAt}
@@ -44,7 +43,7 @@ nameAt false s p = given noName p
 unfoldable pub entriesWithFuel : Reader Value → Bool → ℕ → List ℕ → ℕ → ℕ → ℕ → Answer LocatedTable
 entriesWithFuel value named zero s p end room = given none p
 entriesWithFuel value named (suc fuel) s p end room =
-    pick (ltb p end)
+    cond (ltb p end)
     (andThen (nameAt named s p)
     (λ name q.
     andThen (value s q room)

@@ -1,14 +1,13 @@
 -- A match over octets against a table of rows: one law for an arm of octets, one for the rest.
 use mathlib.Core.Path.{_≡_, refl, sym, ap, _∙_, subst}
 use mathlib.Core.Logic.{inl, inr}
-use mathlib.Core.Bool.{Bool, true, false, _&&_}
+use mathlib.Core.Bool.{Bool, true, false, _&&_, cond}
 use mathlib.Core.List.{List, [], _∷_}
 use Prim.Native.Nat.{ℕ}
 use lib.Dec.{T, eqb}
 use borrow.Author.Tests.{eqb-true}
 use types.Run.{OneOf, hit}
 use mir.Val.{hasKey}
-use Rattle.utf8.specs.Choice.{pick}
 use Rattle.types.specs.Lookup.{Row, lookup}
 
 -- f is v at each key
@@ -29,7 +28,7 @@ Rest (ks ∷ kss) c = Rest kss c × (OneOf ks c → ⊥)
 
 abbrev pub anyKey : List (List ℕ) → ℕ → Bool
 anyKey [] c = false
-anyKey (ks ∷ kss) c = pick (hasKey ks c) true (anyKey kss c)
+anyKey (ks ∷ kss) c = cond (hasKey ks c) true (anyKey kss c)
 
 -- each row of the table has an arm: a test that antt computes
 abbrev pub covers : {A : Type 0} → List (List ℕ) → List (Row A) → Bool
@@ -40,7 +39,7 @@ no-key : (kss : List (List ℕ)) (c : ℕ) → Rest kss c → T (anyKey kss c) �
 no-key [] c r t = t
 no-key (ks ∷ kss) c r t = go (hasKey ks c) refl t (λ h. no-key kss c (r .0) h)
   where
-    go : (b : Bool) → hasKey ks c ≡ b → T (pick b true (anyKey kss c)) → (T (anyKey kss c) → ⊥) → ⊥
+    go : (b : Bool) → hasKey ks c ≡ b → T (cond b true (anyKey kss c)) → (T (anyKey kss c) → ⊥) → ⊥
     go true e h later = r .1 (hit ks c (subst T (sym e) tt))
     go false e h later = later h
 
@@ -49,7 +48,7 @@ rest other kss c [] r t = refl
 rest other kss c (x ∷ rs) r t = go (anyKey kss (x .octet)) refl (eqb c (x .octet)) refl t (λ h. rest other kss c rs r h)
   where
     go : (o : Bool) → anyKey kss (x .octet) ≡ o → (b : Bool) → eqb c (x .octet) ≡ b → T (o && covers kss rs)
-        → (T (covers kss rs) → lookup other rs c ≡ other) → pick b (x .value) (lookup other rs c) ≡ other
+        → (T (covers kss rs) → lookup other rs c ≡ other) → cond b (x .value) (lookup other rs c) ≡ other
     go true o true q h later = absurd (no-key kss c r (subst (λ (k : ℕ). T (anyKey kss k)) (sym (eqb-true c (x .octet) q)) (subst T (sym o) tt)))
     go true o false q h later = later h
     go false o b q h later = absurd h

@@ -1,13 +1,12 @@
 -- Bits and floats, over the format: the code's test is that of a NaN's pattern, and every pattern comes back.
 use mathlib.Core.Path.{_≡_, refl, sym, ap, _∙_, subst, subst⁻¹}
-use mathlib.Core.Bool.{Bool, true, false, not}
+use mathlib.Core.Bool.{Bool, true, false, not, cond}
 use mathlib.Core.List.{List}
 use Prim.Native.Nat.{ℕ, _*_, _%_, _≤_, _<_}
 use borrow.Author.Tests.{lt-ltb, le-ltb}
 use lib.Dec.{T}
 use lib.Ieee.{Format, Float, hid, ones, top, fits, isNan, nanBits, ofBits, toBits}
 use lib.Ieee.Bits.{nanBits-above, nanBits-is, toBits-ofBits, ofBits-toBits, is-false}
-use Rattle.utf8.specs.Choice.{pick}
 use Rattle.types.specs.Answer.{Refusal, Answer, given, refused, andThen}
 use Rattle.types.specs.Octets.{uintAt}
 use Rattle.types.specs.Floats as value
@@ -31,7 +30,7 @@ module _ (f : Format) (n : ℕ) where
   below-is-no-nan h = subst⁻¹ (λ (b : Bool). T (not b)) (no-nan-pattern h) tt
 
 -- read and written again: the bits, a NaN's too
-by-pattern : (f : Format) (n : ℕ) (b : Bool) → n < 2 * top f → nanBits f n ≡ b → bitsOf f (pick b (value.nan n) (float (ofBits f n))) ≡ n
+by-pattern : (f : Format) (n : ℕ) (b : Bool) → n < 2 * top f → nanBits f n ≡ b → bitsOf f (cond b (value.nan n) (float (ofBits f n))) ≡ n
 by-pattern f n true h e = refl
 by-pattern f n false h e = toBits-ofBits f n h (subst⁻¹ (λ (b : Bool). T (not b)) (sym (nanBits-is f n) ∙ e) tt)
 

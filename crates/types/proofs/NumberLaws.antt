@@ -1,7 +1,7 @@
 -- Laws of `numberAt` and `uintAt`, over the width k.
 use mathlib.Core.Path.{_≡_, refl, sym, ap, _∙_, subst, subst⁻¹}
 use mathlib.Core.List.{List, [], _∷_, _++_}
-use mathlib.Core.Bool.{Bool, true, false}
+use mathlib.Core.Bool.{Bool, true, false, cond}
 use Prim.Native.Nat.{ℕ, zero, suc, _+_, _*_, _/_, _%_, _^_, _≤_, _<_}
 use native.Mathlib.Nat.{pow-suc, pow-le-pow-right}
 use native.Mathlib.Numerals.{add-one}
@@ -11,7 +11,6 @@ use lib.Arith.{digits-lt}
 use lib.Dec.{lit<, leb}
 use lib.ListN.{length, getD, length-append}
 use Rattle.types.specs.Answer.{Refusal, Answer, given, refused, truncated}
-use Rattle.utf8.specs.Choice.{pick}
 use Rattle.types.specs.Octets.{numberAt, uintAt, octets}
 
 -- every element is an octet
@@ -70,7 +69,7 @@ pub uintAt-read : (k : ℕ) (s : List ℕ) (at : ℕ) {n next : ℕ} → given n
 unfolding uintAt
 uintAt-read k s at {n} {next} e = go (leb (at + k) (length s)) refl e
   where
-    go : (b : Bool) → leb (at + k) (length s) ≡ b → given n next ≡ pick b (given (numberAt k s at) (at + k)) (refused truncated) → Read k s at n next
+    go : (b : Bool) → leb (at + k) (length s) ≡ b → given n next ≡ cond b (given (numberAt k s at) (at + k)) (refused truncated) → Read k s at n next
     go true t q = record { within = leb-true _ _ t; number = cc; past = cc }
     go false t q = let z : _≡_ {A = ℕ} 0 1 = cc in absurd (omega arith)
 
@@ -84,6 +83,6 @@ pub uintAt-short : (k : ℕ) (s : List ℕ) (at : ℕ) {r : Refusal} → refused
 unfolding uintAt
 uintAt-short k s at {r} e = go (leb (at + k) (length s)) refl e
   where
-    go : (b : Bool) → leb (at + k) (length s) ≡ b → refused r ≡ pick b (given (numberAt k s at) (at + k)) (refused truncated) → length s < at + k
+    go : (b : Bool) → leb (at + k) (length s) ≡ b → refused r ≡ cond b (given (numberAt k s at) (at + k)) (refused truncated) → length s < at + k
     go true t q = let z : _≡_ {A = ℕ} 0 1 = cc in absurd (omega arith)
     go false t q = leb-false _ _ t

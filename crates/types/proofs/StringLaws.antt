@@ -1,6 +1,6 @@
 -- Laws of the strings, one for each way through them.
 use mathlib.Core.Path.{_≡_, refl, sym, ap, _∙_}
-use mathlib.Core.Bool.{Bool, true, false}
+use mathlib.Core.Bool.{Bool, true, false, cond}
 use mathlib.Core.List.{List}
 use Prim.Native.Nat.{ℕ, _+_, _-_, _≤_, _<_}
 use native.Mathlib.Omega.{arith}
@@ -9,7 +9,6 @@ use lib.Dec.{leb}
 use lib.ListN.{length, take, drop}
 use Rattle.utf8.specs.Utf8.{Fault, fault, utf8}
 use Rattle.types.specs.Answer.{Refusal, Answer, given, refused, truncated, notUtf8, andThen}
-use Rattle.utf8.specs.Choice.{pick}
 use Rattle.types.specs.Octets.{uintAt}
 use Rattle.types.specs.Strings.{octetsOf, spanAt, longStrAt, shortStrAt, skipFieldTableAt}
 use Rattle.types.specs.declared.Span.{Span}
@@ -34,7 +33,7 @@ pub spanAt-read : (n : ℕ) (s : List ℕ) (at : ℕ) {v : Span} {next : ℕ} �
 unfolding spanAt
 spanAt-read n s at {v} {next} e = go (leb (at + n) (length s)) refl e
   where
-    go : (b : Bool) → leb (at + n) (length s) ≡ b → given v next ≡ pick b (given (record { start = at; len = n }) (at + n)) (refused truncated) → Spanned n s at v next
+    go : (b : Bool) → leb (at + n) (length s) ≡ b → given v next ≡ cond b (given (record { start = at; len = n }) (at + n)) (refused truncated) → Spanned n s at v next
     go true t q =
         let w : v ≡ record { start = at; len = n } = cc in
         record { within = leb-true _ _ t; start = ap (λ (x : Span). x .start) w; len = ap (λ (x : Span). x .len) w; past = cc }
@@ -58,7 +57,7 @@ module _ (s : List ℕ) (at : ℕ) where
 
 -- what is judged of a short string's octets
 abbrev judged : List ℕ → Span → ℕ → Answer Span
-judged s v q = pick (utf8 (octetsOf s v)) (given v q) (refused notUtf8)
+judged s v q = cond (utf8 (octetsOf s v)) (given v q) (refused notUtf8)
 
 module _ (s : List ℕ) (at : ℕ) where
   pub shortStr-refused : (r : Refusal) → refused r ≡ uintAt 1 s at → refused r ≡ shortStrAt s at
@@ -73,10 +72,10 @@ module _ (s : List ℕ) (at : ℕ) where
   shortStr-cut n p r e f = by-length n p e (ap (λ (x : Answer Span). andThen x (judged s)) f)
 
   pub shortStr-given : (n p : ℕ) (v : Span) (q : ℕ) → given n p ≡ uintAt 1 s at → given v q ≡ spanAt n s p → utf8 (octetsOf s v) ≡ true → given v q ≡ shortStrAt s at
-  shortStr-given n p v q e f u = by-length n p e (sym (ap (λ (b : Bool). pick b (given v q) (refused notUtf8)) u) ∙ ap (λ (x : Answer Span). andThen x (judged s)) f)
+  shortStr-given n p v q e f u = by-length n p e (sym (ap (λ (b : Bool). cond b (given v q) (refused notUtf8)) u) ∙ ap (λ (x : Answer Span). andThen x (judged s)) f)
 
   pub shortStr-notUtf8 : (n p : ℕ) (v : Span) (q : ℕ) → given n p ≡ uintAt 1 s at → given v q ≡ spanAt n s p → utf8 (octetsOf s v) ≡ false → refused notUtf8 ≡ shortStrAt s at
-  shortStr-notUtf8 n p v q e f u = by-length n p e (sym (ap (λ (b : Bool). pick b (given v q) (refused notUtf8)) u) ∙ ap (λ (x : Answer Span). andThen x (judged s)) f)
+  shortStr-notUtf8 n p v q e f u = by-length n p e (sym (ap (λ (b : Bool). cond b (given v q) (refused notUtf8)) u) ∙ ap (λ (x : Answer Span). andThen x (judged s)) f)
 
 -- a table that is passed over
 module _ (s : List ℕ) (at : ℕ) where

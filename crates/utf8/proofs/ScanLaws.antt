@@ -1,6 +1,6 @@
 -- Laws of the grammar and of the place of the first fault, as the scan goes through the octets.
 use mathlib.Core.Path.{_≡_, refl, sym, ap, _∙_, subst}
-use mathlib.Core.Bool.{Bool, true, false, _&&_}
+use mathlib.Core.Bool.{Bool, true, false, _&&_, cond}
 use mathlib.Core.List.{List, [], _∷_}
 use Prim.Native.Nat.{ℕ, zero, suc, _+_, _-_, _≤_, _<_}
 use native.Mathlib.Nat.{add-zero}
@@ -10,7 +10,6 @@ use borrow.Author.Tests.{le-leb, lt-leb}
 use lib.ListN.{length, getD, drop, drop-of-length-le}
 use lib.Seq.{drop-cons}
 use Rattle.utf8.specs.Utf8.{Range, Shape, to, holds, shapes, followersIn, followers, begins, Character, follow, illFormed, characterIn, character, Fault, none, at, after, faultFrom, fault, isNone, utf8}
-use Rattle.utf8.specs.Choice.{pick}
 use Rattle.utf8.specs.AnswerOf.{ranges}
 use Rattle.utf8.proofs.LeadLaws.{same, alike, allFrom, follows, spanned}
 
@@ -18,9 +17,9 @@ use Rattle.utf8.proofs.LeadLaws.{same, alike, allFrom, follows, spanned
 
 abbrev leadIn : List (List Range) → List ℕ → Character
 leadIn [] s = illFormed
-leadIn (rs ∷ rss) s = pick (begins rs s) (follow (length rs)) (leadIn rss s)
+leadIn (rs ∷ rss) s = cond (begins rs s) (follow (length rs)) (leadIn rss s)
 
-by-test : (h b : Bool) (rs : List Range) (rss : List (List Range)) (s : List ℕ) {C : Character} → begins rs s ≡ b → C ≡ leadIn rss s → pick (h && b) (follow (length rs)) C ≡ leadIn (pick h (rs ∷ rss) rss) s
+by-test : (h b : Bool) (rs : List Range) (rss : List (List Range)) (s : List ℕ) {C : Character} → begins rs s ≡ b → C ≡ leadIn rss s → cond (h && b) (follow (length rs)) C ≡ leadIn (cond h (rs ∷ rss) rss) s
 by-test true b rs rss s e c = rw (e, c)
 by-test false b rs rss s e c = c
 
@@ -32,11 +31,11 @@ length-ranges : (n l h : ℕ) → length (ranges n l h) ≡ n
 length-ranges zero l h = refl
 length-ranges (suc n) l h = ap suc (length-ranges n 0x80 0xBF)
 
-pub character-more : (n l h x : ℕ) (s : List ℕ) → ranges n l h ∷ [] ≡ followers x → character x s ≡ pick (begins (ranges n l h) s) (follow n) illFormed
+pub character-more : (n l h x : ℕ) (s : List ℕ) → ranges n l h ∷ [] ≡ followers x → character x s ≡ cond (begins (ranges n l h) s) (follow n) illFormed
 unfolding character followers
 character-more n l h x s e =
     character-by shapes x s ∙ ap (λ (rss : List (List Range)). leadIn rss s) (sym e)
-    ∙ ap (λ (k : ℕ). pick (begins (ranges n l h) s) (follow k) illFormed) (length-ranges n l h)
+    ∙ ap (λ (k : ℕ). cond (begins (ranges n l h) s) (follow k) illFormed) (length-ranges n l h)
 
 pub character-never : (x : ℕ) (s : List ℕ) → [] ≡ followers x → character x s ≡ illFormed
 unfolding character followers
@@ -73,7 +72,7 @@ continues s i n l h = begins (ranges n l h) (drop i s)
 -- ---- inside a character that began at p, of n octets more: b says whether what is left of it is right
 
 unfoldable pub verdict : List ℕ → ℕ → ℕ → Bool → Fault
-verdict s p n b = after (pick b (follow n) illFormed) p (λ k. faultFrom k (p + 1) (drop (p + 1) s))
+verdict s p n b = after (cond b (follow n) illFormed) p (λ k. faultFrom k (p + 1) (drop (p + 1) s))
 
 module _ (s : List ℕ) (p : ℕ) {F : Fault} where
   -- the first octet was read

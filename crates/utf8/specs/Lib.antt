@@ -1,5 +1,4 @@
 -- The specification of UTF-8, from the grammar of RFC 3629, section 4.
-pub mod Choice
 pub mod Utf8
 pub mod AnswerOf
 mod Examples

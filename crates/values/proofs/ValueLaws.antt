@@ -1,6 +1,6 @@
 -- Leaf values and their words: the ways through `valueOf`, and that value and words are inverse to each other.
 use mathlib.Core.Path.{_≡_, refl, sym, ap, _∙_}
-use mathlib.Core.Bool.{Bool, true, false, not}
+use mathlib.Core.Bool.{Bool, true, false, not, cond}
 use mathlib.Core.Option.{Option, none, some}
 use mathlib.Core.List.{List, [], _∷_}
 use Prim.Native.Nat.{ℕ, zero, suc, _%_, _<_, _^_}
@@ -14,7 +14,6 @@ use lib.Ieee.{Format, Float, binary32, binary64, fits, isNan, nanBits, toBits}
 use lib.Ieee.Bits.{toBits-lt}
 use mir.Syntax.{Width, w8, w16, w32, w64}
 use mir.Val.{boolByte, bits, hbits, ofZ, toZ}
-use Rattle.utf8.specs.Choice.{pick}
 use Rattle.bits.specs.Signed.{twos, signed}
 use Rattle.bits.specs.Flags.{bit}
 use Rattle.types.specs.Floats.{FloatValue, float, nan, floatOf, bitsOf}
@@ -42,7 +41,7 @@ pub within-same : (limit : ℕ) (w : LeafWords) {v u : FieldValue} → (w .first
     → within limit (w .first) (w .second) v ≡ within limit (w .first) (w .second) u
 within-same limit w {v} {u} h = go (ltb (w .first) limit) refl
   where
-    go : (t : Bool) → ltb (w .first) limit ≡ t → pick t (unused (w .second) v) none ≡ pick t (unused (w .second) u) none
+    go : (t : Bool) → ltb (w .first) limit ≡ t → cond t (unused (w .second) v) none ≡ cond t (unused (w .second) u) none
     go true e = ap (unused (w .second)) (h (ltb-true (w .first) limit e))
     go false e = refl
 
@@ -136,14 +135,14 @@ no-value e = let z : _≡_ {A = ℕ} 0 1 = cc in absurd (omega arith)
 unused-some : (b : ℕ) {v u : FieldValue} → unused b v ≡ some u → (b ≡ 0) × (v ≡ u)
 unused-some b {v} {u} e = go (eqb b 0) refl e
   where
-    go : (t : Bool) → eqb b 0 ≡ t → pick t (some v) none ≡ some u → (b ≡ 0) × (v ≡ u)
+    go : (t : Bool) → eqb b 0 ≡ t → cond t (some v) none ≡ some u → (b ≡ 0) × (v ≡ u)
     go true q h = (eqb-true b 0 q, cc)
     go false q h = no-value h
 
 within-some : (limit a b : ℕ) {v u : FieldValue} → within limit a b v ≡ some u → (a < limit) × (b ≡ 0) × (v ≡ u)
 within-some limit a b {v} {u} e = go (ltb a limit) refl e
   where
-    go : (t : Bool) → ltb a limit ≡ t → pick t (unused b v) none ≡ some u → (a < limit) × (b ≡ 0) × (v ≡ u)
+    go : (t : Bool) → ltb a limit ≡ t → cond t (unused b v) none ≡ some u → (a < limit) × (b ≡ 0) × (v ≡ u)
     go true q h = let s = unused-some b h in (ltb-true a limit q, s .0, s .1)
     go false q h = no-value h
 
@@ -169,7 +168,7 @@ truth (suc (suc a)) h = absurd (omega arith)
 decimal-back : Back (row 68 decimalOf)
 decimal-back a b v fa fb e = go (ltb a (2 ^ 8)) (ltb b (2 ^ 32)) refl refl e
   where
-    go : (t u : Bool) → ltb a (2 ^ 8) ≡ t → ltb b (2 ^ 32) ≡ u → pick t (pick u (some (value.Decimal a (signed 32 b))) none) none ≡ some v → wordsOf v ≡ leaf 68 a b
+    go : (t u : Bool) → ltb a (2 ^ 8) ≡ t → ltb b (2 ^ 32) ≡ u → cond t (cond u (some (value.Decimal a (signed 32 b))) none) none ≡ some v → wordsOf v ≡ leaf 68 a b
     go true true p q h = let s : value.Decimal a (signed 32 b) ≡ v = cc in sym (ap wordsOf s) ∙ ap (leaf 68 a) (twos-signed w32 b (ltb-true b (2 ^ 32) q))
     go true false p q h = no-value h
     go false u p q h = no-value h
@@ -205,7 +204,7 @@ by-rows : (rs : List (Row FromWords)) → AllBack rs → (c a b : ℕ) (v : Fiel
 by-rows [] h c a b v fa fb e = no-value e
 by-rows (r ∷ rs) (also h hs) c a b v fa fb e = go (eqb c (r .octet)) refl e (λ later. by-rows rs hs c a b v fa fb later)
   where
-    go : (t : Bool) → eqb c (r .octet) ≡ t → pick t (r .value) (lookup (λ a b. none) rs c) a b ≡ some v → (lookup (λ a b. none) rs c a b ≡ some v → wordsOf v ≡ leaf c a b)
+    go : (t : Bool) → eqb c (r .octet) ≡ t → cond t (r .value) (lookup (λ a b. none) rs c) a b ≡ some v → (lookup (λ a b. none) rs c a b ≡ some v → wordsOf v ≡ leaf c a b)
         → wordsOf v ≡ leaf c a b
     go true q s later = h a b v fa fb s ∙ ap (λ (l : ℕ). leaf l a b) (sym (eqb-true c (r .octet) q))
     go false q s later = later s

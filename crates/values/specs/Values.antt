@@ -1,12 +1,11 @@
 -- Leaf values and their words on the tape: document 01, "types.rs: tables and the tape", letters by the RabbitMQ errata.
 -- Signed numbers are two's complement at their own width, floats their bits, unused words 0.
 use Prim.Native.Nat.{ℕ, _^_}
-use mathlib.Core.Bool.{Bool, true, false}
+use mathlib.Core.Bool.{Bool, true, false, cond}
 use mathlib.Core.Option.{Option, none, some}
 use mathlib.Core.List.{List, [], _∷_}
 use lib.Dec.{ltb, eqb}
 use lib.Ieee.{binary32, binary64, toBits}
-use Rattle.utf8.specs.Choice.{pick}
 use Rattle.bits.specs.Signed.{twos, signed}
 use Rattle.bits.specs.Flags.{bit}
 use Rattle.types.specs.Floats.{FloatValue, float, nan, floatOf}
@@ -60,13 +59,13 @@ f64Value n = asF64 (floatOf binary64 n)
 
 -- a value whose second word is unused, and one whose first word is also below a limit
 abbrev pub unused : ℕ → FieldValue → Option FieldValue
-unused b v = pick (eqb b 0) (some v) none
+unused b v = cond (eqb b 0) (some v) none
 
 abbrev pub within : ℕ → ℕ → ℕ → FieldValue → Option FieldValue
-within limit a b v = pick (ltb a limit) (unused b v) none
+within limit a b v = cond (ltb a limit) (unused b v) none
 
 abbrev pub decimalOf : ℕ → ℕ → Option FieldValue
-decimalOf a b = pick (ltb a (2 ^ 8)) (pick (ltb b (2 ^ 32)) (some (value.Decimal a (signed 32 b))) none) none
+decimalOf a b = cond (ltb a (2 ^ 8)) (cond (ltb b (2 ^ 32)) (some (value.Decimal a (signed 32 b))) none) none
 
 -- from the two words to the value
 abbrev pub FromWords : Type 0

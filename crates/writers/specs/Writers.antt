@@ -1,11 +1,11 @@
 -- The writers of numbers, octets and strings at a place of an output, with their refusals in document 01's order. Want of space
 -- (11) comes last in each.
+use mathlib.Core.Bool.{cond}
 use Prim.Native.Nat.{ℕ, _+_}
 use mathlib.Core.List.{List}
 use mathlib.Core.Option.{Option, none, some}
 use lib.ListN.{length}
 use lib.Dec.{leb}
-use Rattle.utf8.specs.Choice.{pick}
 use Rattle.types.specs.Answer.{Refusal, given, refused, noSpace}
 use Rattle.types.specs.Octets.{octets}
 use Rattle.types.specs.Strings.{shortStr, longStr, judgeShortStr, judgeLength}
@@ -15,7 +15,7 @@ use Rattle.types.specs.Memory.{splice, Outcome, outcome}
 unfoldable pub writeAt : Option Refusal → List ℕ → ℕ → List ℕ → Outcome Unit
 writeAt (some r) xs at out = outcome (refused r) out
 writeAt none xs at out =
-    pick (leb (at + length xs) (length out)) (outcome (given tt (at + length xs)) (splice at xs out)) (outcome (refused noSpace) out)
+    cond (leb (at + length xs) (length out)) (outcome (given tt (at + length xs)) (splice at xs out)) (outcome (refused noSpace) out)
 
 -- a number of k octets
 unfoldable pub writeUint : ℕ → ℕ → ℕ → List ℕ → Outcome Unit
