@@ -1,5 +1,5 @@
 -- The rule of the first octets, by a test that is computed over a whole range of them.
-use mathlib.Core.Path.{_≡_, refl, ap, _∙_, sym, subst}
+use mathlib.Core.Path.{_≡_, refl, subst}
 use mathlib.Core.Bool.{Bool, true, false, _&&_}
 use mathlib.Core.List.{List, [], _∷_}
 use Prim.Native.Nat.{ℕ, zero, suc, _+_, _-_, _≤_, _<_}
@@ -7,7 +7,7 @@ use native.Mathlib.Omega.{arith}
 use native.Mathlib.Nat.{eq-or-lt-of-le}
 use mathlib.Core.Logic.{⊎-elim}
 use lib.Dec.{T, eqb, eqb→eq}
-use Rattle.utf8.specs.Utf8.{Range, to, character}
+use Rattle.utf8.specs.Utf8.{Range, to}
 use Rattle.utf8.specs.Utf8.{followers}
 
 and-l : (a b : Bool) → T (a && b) → T a

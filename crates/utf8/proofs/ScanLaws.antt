@@ -1,16 +1,17 @@
 -- Laws of the grammar and of the place of the first fault, as the scan goes through the octets.
 use mathlib.Core.Path.{_≡_, refl, sym, ap, _∙_, subst}
-use mathlib.Core.Bool.{Bool, true, false, _&&_, cond}
+use mathlib.Core.Bool.{Bool, true, false, not, _&&_, cond}
 use mathlib.Core.List.{List, [], _∷_}
 use Prim.Native.Nat.{ℕ, zero, suc, _+_, _-_, _≤_, _<_}
 use native.Mathlib.Nat.{add-zero}
-use native.Mathlib.Numerals.{add-one, sub-one}
+use native.Mathlib.Numerals.{add-one}
 use native.Mathlib.Omega.{arith}
 use borrow.Author.Tests.{le-leb, lt-leb}
+use lib.Dec.{T, leb, leb→le, nleb→lt}
 use lib.ListN.{length, getD, drop, drop-of-length-le}
 use lib.Seq.{drop-cons}
 use Rattle.utf8.specs.Utf8.{Range, Shape, to, holds, shapes, followersIn, followers, begins, Character, follow, illFormed, characterIn, character, Fault, none, at, after, faultFrom, fault, isNone, utf8}
-use Rattle.utf8.specs.AnswerOf.{ranges}
+use Rattle.utf8.specs.AnswerOf.{ranges, Ascii}
 use Rattle.utf8.proofs.LeadLaws.{same, alike, allFrom, follows, spanned}
 
 -- ---- a character, by what follows its first octet
@@ -145,3 +146,37 @@ unfolding allFrom follows same alike followers
 fault-ascii s i f h a =
     let alone = spanned 0 0x80 ([] ∷ []) tt (getD s i 0) (omega arith) (omega arith) in
     verdict-done s i 0 0x80 0xBF 0 (i + 1) (verdict-begun s i 0 0x80 0xBF f h alone) (omega arith) (omega arith) (omega arith)
+
+-- where all octets are below 128 there is no fault
+
+ascii-start : (s : List ℕ) (k : ℕ) → k ≤ length s → Ascii s 0 k → fault s ≡ faultFrom 0 k (drop k s)
+unfolding Ascii
+ascii-start s zero h a = fault-start s
+ascii-start s (suc k) h a =
+    let m : k + 1 ≡ suc k = omega arith in
+    rw (← m) (fault-ascii s k (ascii-start s k (omega arith) (λ i l u. a i l (omega arith))) (omega arith) (a k (omega arith) (omega arith)))
+
+pub ascii-all : (s : List ℕ) (n : ℕ) → n ≡ length s → Ascii s 0 n → none ≡ fault s
+ascii-all s n e a = fault-end s n (ascii-start s n (omega arith) a) (omega arith)
+
+-- two parts one behind the other, which may overlap
+pub ascii-join : (s : List ℕ) (a b c d : ℕ) → c ≤ b → Ascii s a b → Ascii s c d → Ascii s a d
+unfolding Ascii
+ascii-join s a b c d h f g i l u = go (leb (suc i) b) refl
+  where
+    go : (t : Bool) → leb (suc i) b ≡ t → getD s i 0 < 0x80
+    go true e = f i l (leb→le (suc i) b (subst T (sym e) tt))
+    go false e = g i (omega (arith, nleb→lt (suc i) b (subst (λ (t : Bool). T (not t)) (sym e) tt))) u
+
+-- no octet, and one more
+pub ascii-none : (s : List ℕ) (a b : ℕ) → b ≤ a → Ascii s a b
+unfolding Ascii
+ascii-none s a b h i l u = absurd (omega arith)
+
+pub ascii-next : (s : List ℕ) (a b : ℕ) → Ascii s a b → getD s b 0 < 0x80 → Ascii s a (b + 1)
+unfolding Ascii
+ascii-next s a b f h = ascii-join s a b b (b + 1) (omega arith) f (λ i l u. let e : i ≡ b = omega arith in rw e h)
+
+pub ascii-less : (s : List ℕ) (a b c : ℕ) → c ≤ b → Ascii s a b → Ascii s a c
+unfolding Ascii
+ascii-less s a b c h f i l u = f i l (omega arith)

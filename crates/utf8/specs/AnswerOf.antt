@@ -1,5 +1,6 @@
 -- What the answers of the code say, in the words of the grammar.
-use Prim.Native.Nat.{ℕ, zero, suc}
+use Prim.Native.Nat.{ℕ, zero, suc, _≤_, _<_}
+use lib.ListN.{getD}
 use mathlib.Core.List.{List, [], _∷_}
 use Rattle.utf8.specs.Utf8.{Range, to, Fault, none, at}
 use Rattle.utf8.specs.declared.Lead.{Lead}
@@ -19,3 +20,7 @@ answerOfLead Never = []
 abbrev pub answerOfScan : Scan → Fault
 answerOfScan WellFormed = none
 answerOfScan (IllFormed p) = at p
+
+-- the octets from one place to another are below 128
+unfoldable pub Ascii : List ℕ → ℕ → ℕ → Type 0
+Ascii s start end = (i : ℕ) → start ≤ i → i < end → getD s i 0 < 0x80

@@ -1,8 +1,10 @@
 // The UTF-8 check of RFC 3629.
 ghost use mathlib.Core.Path.{_≡_};
 ghost use mathlib.Core.Bool.{true};
+ghost use Prim.Native.Nat.{_≤_};
+ghost use lib.ListN.{length};
 ghost use Rattle.utf8.specs.Utf8.{none, fault, followers};
-ghost use Rattle.utf8.specs.AnswerOf.{answerOfLead, answerOfScan};
+ghost use Rattle.utf8.specs.AnswerOf.{Ascii, answerOfLead, answerOfScan};
 
 // All octets are characters, or the place of the first ill-formed one.
 pub enum Scan {
@@ -33,19 +35,40 @@ fn lead_of(b: u8) -> Lead
     }
 }
 
-// Whether all octets are ASCII letters. The loop has no way out in its middle, so that it can be done many octets at a time.
-fn is_ascii(s: &[u8]) -> bool
-    ensures { λ r. ⌜ (r ≡ true → none ≡ fault (now (s .entry))) ⌝ }
+// Whether the octets from one place to another are ASCII letters. The loop has no way out in its middle, so that it can be done
+// many octets at a time.
+fn ascii_part(s: &[u8], from: usize, to: usize) -> bool
+    requires { ⌜ to ≤ length (now s) ⌝ }
+    ensures { λ r. ⌜ (r ≡ true → Ascii (now (s .entry)) from to) ⌝ }
 {
     let mut ascii = true;
-    let mut i = 0;
-    while i < s.len() {
+    let mut i = from;
+    while i < to {
         if 0x7F < s[i] {
             ascii = false;
         }
         i += 1;
     }
     ascii
+}
+
+// Whether all octets are ASCII letters: eight at a time, which makes one load of short names. The last eight may overlap those
+// before.
+fn is_ascii(s: &[u8]) -> bool
+    ensures { λ r. ⌜ (r ≡ true → none ≡ fault (now (s .entry))) ⌝ }
+{
+    let n = s.len();
+    if n < 8 {
+        return ascii_part(s, 0, n);
+    }
+    let mut i = 0;
+    while i < n - 8 {
+        if !ascii_part(s, i, i + 8) {
+            return false;
+        }
+        i += 8;
+    }
+    ascii_part(s, n - 8, n)
 }
 
 // Character by character. Ends inside one as soon as an octet cannot continue it.

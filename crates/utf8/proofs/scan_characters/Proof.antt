@@ -1,10 +1,9 @@
 -- `utf8::scan_characters` meets its contract. Assumes nothing.
 use mathlib.Core.Path.{_≡_, refl, sym, ap, _∙_}
-use mathlib.Core.List.{[]}
 use Prim.Native.Nat.{_≤_, _<_, _-_, _+_}
 use native.Mathlib.Omega.{arith}
 use borrow.Author.Needs.{needs}
-use lib.ListN.{length, getD, drop}
+use lib.ListN.{length, drop}
 use Rattle.utf8.specs.Utf8.{fault, faultFrom}
 use Rattle.utf8.specs.AnswerOf.{answerOfLead}
 use Rattle.utf8.proofs.ScanLaws.{fault-start, fault-end, continues, verdict, verdict-begun, verdict-never, verdict-next, verdict-not, verdict-done, begins-cut, begins-low, begins-high, begins-next}
