@@ -1,6 +1,6 @@
 -- Signed numbers in two's complement: document 01, "types.rs: octets and strings".
 use Prim.Native.Nat.{ℕ, suc, _-_, _^_}
-use mathlib.Core.Bool.{Bool, true, false, cond}
+use mathlib.Core.Bool.{cond}
 use lib.Dec.{ltb}
 use lib.IntN.{ℤ, pos, negsuc}
 

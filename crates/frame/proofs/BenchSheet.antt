@@ -1,7 +1,6 @@
 -- The bench sheet holds: each line by computing.
 use mathlib.Core.Path.{_≡_, refl, sym, _∙_}
-use mathlib.Core.Bool.{Bool, true, false}
-use mathlib.Core.List.{List, [], _∷_, _++_}
+use mathlib.Core.List.{List, [], _∷_}
 use Prim.Native.Nat.{ℕ}
 use Rattle.utf8.specs.Utf8.{character, faultFrom, fault, utf8}
 use Rattle.types.specs.Octets.{numberAt, uintAt}

@@ -1,24 +1,22 @@
 -- A frame is read back as it was written, and cut short it is Truncated.
-use mathlib.Core.Path.{_≡_, refl, sym, ap, _∙_, subst}
+use mathlib.Core.Path.{_≡_, refl, sym, ap, _∙_}
 use mathlib.Core.Bool.{Bool, true, false, cond}
-use mathlib.Core.Option.{Option, none, some}
 use mathlib.Core.List.{List, [], _∷_, _++_}
-use Prim.Native.Nat.{ℕ, zero, suc, _+_, _-_, _*_, _^_, _/_, _%_, _≤_, _<_}
+use Prim.Native.Nat.{ℕ, zero, _+_, _-_, _^_, _%_, _≤_, _<_}
 use native.Mathlib.Omega.{arith}
-use native.Mathlib.Nat.{add-assoc, add-zero}
-use lib.ListN.{length, take, drop, getD, length-append, length-take}
+use native.Mathlib.Nat.{add-zero}
+use lib.ListN.{length, take, getD, length-append}
 use lib.Seq.{length-take-le}
 use lib.Dec.{leb, ltb, eqb}
-use Rattle.types.specs.Answer.{Answer, given, refused, Refusal, truncated, notWritten, unsupportedFieldType, tapeFull, andThen, need}
+use Rattle.types.specs.Answer.{Answer, given, refused, truncated, notWritten, unsupportedFieldType, andThen, need}
 use Rattle.types.specs.Octets.{numberAt, octets}
-use Rattle.types.specs.Strings.{octetsOf}
 use Rattle.types.specs.declared.Span.{Span}
-use Rattle.types.proofs.Tests.{leb-yes, leb-no, yes-leb, no-leb, decide, eqb-yes}
+use Rattle.types.proofs.Tests.{leb-yes, leb-no, yes-leb, decide}
 use Rattle.types.proofs.Standing.{Stands, Cut, stands-left, stands-right, cut-split, stands-within}
 use Rattle.types.proofs.Chain.{then-go, need-given, given-next, given-value}
 use Rattle.types.proofs.RoundTrip.{stands-octet, number-value}
 use Rattle.tables.specs.Letters.{Letters}
-use Rattle.tables.specs.Tape.{Record, WithTape}
+use Rattle.tables.specs.Tape.{WithTape}
 use Rattle.method.specs.Fields.{Meaning, Located, Returned}
 use Rattle.method.specs.Reading.{commandAt, headerAt}
 use Rattle.method.proofs.Bounds.{command-within, header-within}

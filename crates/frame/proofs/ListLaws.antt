@@ -1,8 +1,8 @@
 -- The laws of self-delimiting frames, from what one frame's writer and one step of the walk promise.
 use mathlib.Core.Path.{_≡_, refl, sym, ap, _∙_, subst}
-use mathlib.Core.Bool.{Bool, true, false, cond}
+use mathlib.Core.Bool.{Bool, cond}
 use mathlib.Core.Option.{Option, none, some}
-use mathlib.Core.List.{List, [], _∷_, _++_, map, append-assoc, append-nil, append-cancel-left, IsPrefix}
+use mathlib.Core.List.{List, [], _∷_, _++_, map, append-assoc, append-cancel-left, IsPrefix}
 use mathlib.Core.Logic.{_↔_}
 use Prim.Native.Nat.{ℕ, zero, suc, _+_, _-_, _≤_, _<_}
 use native.Mathlib.Omega.{arith}
@@ -13,9 +13,9 @@ use lib.Seq.{take-append-seam, length-take-le}
 use Rattle.types.specs.Answer.{Refusal, truncated, Answer, given, refused}
 use Rattle.types.specs.Records.{concatMap}
 use Rattle.types.proofs.Tests.{leb-yes, leb-no, yes-leb, no-leb, decide}
-use Rattle.types.proofs.Standing.{Stands, Cut, drop-end, length-zero, stands-prefix, drop-prefix, cut-prefix, stands-head, stands-left, stands-right, stands-nil, stands-join}
+use Rattle.types.proofs.Standing.{Stands, Cut, stands-prefix, drop-prefix, cut-prefix, stands-head, stands-left, stands-right, stands-nil, stands-join}
 use Rattle.tables.specs.Tape.{Record, WithTape}
-use Rattle.frame.specs.Walk.{Entry, WalkResult, ended, push, WalkStep, afterStep, walkFrom}
+use Rattle.frame.specs.Walk.{Entry, WalkResult, ended, push, WalkStep, walkFrom}
 use Rattle.frame.specs.Senders.{All, total, upTo}
 
 -- a whole frame, as a step of the walk gives it

@@ -1,16 +1,14 @@
 -- The theorem of the two senders holds of any two lists of frames that the writers accept: document 01, "frame.rs: frames and the walk".
-use mathlib.Core.Path.{_≡_, refl, sym, ap, _∙_, subst}
-use mathlib.Core.Bool.{Bool, true, false, cond}
-use mathlib.Core.Option.{Option, none, some}
-use mathlib.Core.List.{List, [], _∷_, _++_, map, append-nil, IsPrefix}
-use Prim.Native.Nat.{ℕ, zero, suc, _+_, _-_, _*_, _/_, _^_, _≤_, _<_}
+use mathlib.Core.Path.{_≡_, refl, sym, ap, _∙_}
+use mathlib.Core.Option.{none, some}
+use mathlib.Core.List.{List, [], _∷_, append-nil, IsPrefix}
+use Prim.Native.Nat.{ℕ, zero, suc, _+_, _-_, _≤_}
 use native.Mathlib.Omega.{arith}
-use lib.ListN.{length, take, drop, length-append, take-append-drop}
+use lib.ListN.{length, take, drop, take-append-drop}
 use lib.Seq.{length-take-le, take-all}
-use lib.Dec.{leb, ltb}
-use Rattle.types.specs.Answer.{Answer, given, refused, Refusal, truncated, tooLong}
+use lib.Dec.{leb}
+use Rattle.types.specs.Answer.{tooLong}
 use Rattle.types.specs.Strings.{judgeLength}
-use Rattle.types.specs.Judgement.{test, orElse}
 use Rattle.types.specs.Memory.{splice}
 use Rattle.types.specs.Records.{RecordFormat, concatMap, firstRecords, recordCount, records}
 use Rattle.types.specs.declared.Span.{Span}
@@ -18,15 +16,14 @@ use Rattle.types.proofs.Splice.{splice-length}
 use Rattle.types.proofs.Tests.{yes-leb}
 use Rattle.types.proofs.Chain.{test-none, orElse-none}
 use Rattle.tables.specs.Letters.{Letters, errata}
-use Rattle.tables.specs.Tape.{Record, tapeRecords, WithTape}
+use Rattle.tables.specs.Tape.{Record, tapeRecords}
 use Rattle.tables.proofs.JudgeLaws.{Octets}
 use Rattle.tables.proofs.TapeLaws.{length-concatMap, held}
-use Rattle.method.specs.Fields.{Meaning, Sent, Returned}
+use Rattle.method.specs.Fields.{Sent, Returned}
 use Rattle.method.proofs.MethodLaws.{command-fit, header-fit}
-use Rattle.frame.specs.Frame.{frameOctets}
-use Rattle.frame.specs.Step.{Payload, command, header, body, heartbeat, FrameOf, stepAt, walkStepAt}
-use Rattle.frame.specs.Walk.{Entry, registerRecords, WalkResult, walkFrom, outcomeOfWalk, walk, meaningAt, listAt, returned}
-use Rattle.frame.specs.Senders.{SentFrame, FrameMeaning, typeOf, valuesOf, Typed, NoNul, All, total, upTo, sentPayloadMeaning, sentFrameMeaning, framePayloadOctets, octetsOf, refusalOf, frameRefusal, Accepted, octets, endingBy, valuesIn, AtCut, TwoSenders}
+use Rattle.frame.specs.Step.{Payload, command, header, body, heartbeat, FrameOf, walkStepAt}
+use Rattle.frame.specs.Walk.{Entry, registerRecords, walkFrom, walk, meaningAt, listAt, returned}
+use Rattle.frame.specs.Senders.{SentFrame, FrameMeaning, typeOf, valuesOf, Typed, NoNul, All, sentPayloadMeaning, sentFrameMeaning, framePayloadOctets, octetsOf, refusalOf, frameRefusal, Accepted, octets, endingBy, valuesIn, AtCut, TwoSenders}
 use Rattle.frame.proofs.ListLaws as list
 use Rattle.frame.proofs.ListLaws.{Framing, Laws, two-lists, at-prefix, upTo-all}
 use Rattle.frame.proofs.FrameLaws.{FitPayload, FitFrame, placeFrame, octetsOfMeaning, frame-length, payload-size, step-here, step-cut, frame-meaning, walk-step-is}

@@ -1,23 +1,22 @@
 -- The walk step by step, with no fuel, and its outcome in the lent tape and register: what a proof about code goes by.
-use mathlib.Core.Path.{_≡_, refl, sym, ap, _∙_}
-use mathlib.Core.Bool.{Bool, true, false}
+use mathlib.Core.Path.{_≡_, refl, _∙_}
 use mathlib.Core.Option.{Option, none, some}
-use mathlib.Core.List.{List, [], _∷_, _++_, append-assoc}
-use Prim.Native.Nat.{ℕ, zero, suc, _+_, _-_, _*_, _/_, _≤_, _<_}
+use mathlib.Core.List.{List, [], _∷_, _++_}
+use Prim.Native.Nat.{ℕ, suc, _+_, _-_, _*_, _≤_, _<_}
 use native.Mathlib.Omega.{arith}
-use native.Mathlib.Nat.{zero-add, zero-mul, add-zero}
-use lib.ListN.{length, length-append}
-use Rattle.types.specs.Answer.{Refusal, Answer, given, refused}
+use native.Mathlib.Nat.{zero-add, add-zero}
+use lib.ListN.{length}
+use Rattle.types.specs.Answer.{Refusal, given, refused}
 use Rattle.types.specs.Memory.{splice}
-use Rattle.types.specs.Records.{concatMap, recordCount}
+use Rattle.types.specs.Records.{concatMap}
 use Rattle.types.specs.declared.Span.{Span}
 use Rattle.types.proofs.Splice.{splice-nil, splice-after}
 use Rattle.tables.specs.Letters.{Letters}
 use Rattle.tables.specs.Tape.{Record, tapeRecords, WithTape}
-use Rattle.tables.proofs.TapeLaws.{length-concatMap}
+use Rattle.tables.proofs.TapeLaws.{length-concatMap, concatMap-append}
 use Rattle.method.specs.Fields.{Returned}
 use Rattle.frame.specs.Step.{FrameOf, walkStepAt}
-use Rattle.frame.specs.Walk.{Entry, registerRecords, WalkResult, ended, push, walkFrom, WalkOutcome, outcomeOfWalk, walk}
+use Rattle.frame.specs.Walk.{registerRecords, WalkResult, ended, push, walkFrom, WalkOutcome, outcomeOfWalk, walk}
 use Rattle.frame.proofs.ListLaws.{walk-none, walk-stop, walk-agree, walk-step}
 use Rattle.frame.proofs.FrameLaws.{step-move}
 
@@ -60,10 +59,6 @@ pub outcome-end : (used k : ℕ) (tape register : List ℕ) (p : ℕ) (refusal :
     → outcomeFrom used k tape register (ended p refusal) ≡ record { frames = k; consumed = p; refusal = refusal; tape = tape; register = register }
 unfolding outcomeFrom
 outcome-end used k tape register p refusal = rw (splice-nil (used * 6) tape, splice-nil (k * 3) register, add-zero k)
-
-concatMap-append : {R : Type 0} (f : R → List ℕ) (xs ys : List R) → concatMap f (xs ++ ys) ≡ concatMap f xs ++ concatMap f ys
-concatMap-append f [] ys = refl
-concatMap-append f (x ∷ xs) ys = ap (λ l. f x ++ l) (concatMap-append f xs ys) ∙ sym (append-assoc (f x) (concatMap f xs) (concatMap f ys))
 
 -- a step: its records behind those used, its entry behind those there
 pub outcome-step : (used k : ℕ) (tape register : List ℕ) (p : ℕ) (rs : List Record) (w : WalkResult) → (used + length rs) * 6 ≤ length tape → (k + 1) * 3 ≤ length register

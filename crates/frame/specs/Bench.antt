@@ -1,7 +1,7 @@
 -- The bench sheet of document 01, "Bench sheet": its sixteen numbered lines as one table of facts about the definitions.
 use mathlib.Core.Path.{_≡_}
-use mathlib.Core.Bool.{Bool, true, false}
-use mathlib.Core.Option.{Option, none, some}
+use mathlib.Core.Bool.{true, false}
+use mathlib.Core.Option.{none}
 use mathlib.Core.List.{List, [], _∷_, _++_}
 use Prim.Native.Nat.{ℕ, zero, suc}
 use lib.ListN.{length, replicate}
@@ -14,7 +14,7 @@ use Rattle.tables.specs.Forest as forest
 use Rattle.tables.specs.Forest.{item, words, LocatedTable}
 use Rattle.tables.specs.Reading.{noName, tableAt, loneValueAt}
 use Rattle.tables.specs.Writing.{writeLoneValue}
-use Rattle.method.specs.Fields.{Login, Sent}
+use Rattle.method.specs.Fields.{Sent}
 use Rattle.method.specs.Commands.{fieldsOf, Command, call}
 use Rattle.method.specs.Properties.{properties, select, Header, header}
 use Rattle.method.specs.Writing.{sentCommandMeaning, commandOctets, writeHeader}

@@ -1,5 +1,5 @@
 -- Frames: 0-9-1, 4.2.3, and document 01, "frame.rs: frames and the walk". Type octet, channel, size, payload, frame end.
-use mathlib.Core.Bool.{Bool, true, false, cond}
+use mathlib.Core.Bool.{Bool, true, cond}
 use mathlib.Core.List.{List, [], _∷_, _++_}
 use Prim.Native.Nat.{ℕ, _+_}
 use lib.ListN.{length, getD}

@@ -1,10 +1,10 @@
 -- Two senders' lists of frames, and the theorem of the two senders, about any two lists and any cut: document 01, "frame.rs: frames and the walk".
 use mathlib.Core.Path.{_≡_}
-use mathlib.Core.Bool.{Bool, true, false, cond}
+use mathlib.Core.Bool.{cond}
 use mathlib.Core.Option.{Option, none, some}
-use mathlib.Core.List.{List, [], _∷_, _++_, map, IsPrefix}
+use mathlib.Core.List.{List, [], _∷_, map, IsPrefix}
 use mathlib.Core.Logic.{_↔_}
-use Prim.Native.Nat.{ℕ, suc, _+_, _^_, _≤_, _<_}
+use Prim.Native.Nat.{ℕ, _+_, _^_, _≤_, _<_}
 use lib.ListN.{length, take}
 use lib.Dec.{leb, ltb}
 use Rattle.types.specs.Answer.{Refusal, truncated}

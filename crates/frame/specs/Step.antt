@@ -1,7 +1,7 @@
 -- The reading step: a frame is decoded, then its payload is read as command, content header, body or heartbeat. Document 01, "frame.rs: frames
 -- and the walk".
-use mathlib.Core.Bool.{Bool, true, false, cond}
-use mathlib.Core.List.{List, [], _∷_, _++_}
+use mathlib.Core.Bool.{cond}
+use mathlib.Core.List.{List, []}
 use Prim.Native.Nat.{ℕ, _+_, _-_}
 use lib.ListN.{length, take}
 use lib.Dec.{leb, ltb, eqb}

@@ -1,7 +1,7 @@
 -- The walk: the step repeated from octet 0, each table taking the tape after the one before; the register; the list returned.
 -- Document 01, "frame.rs: frames and the walk".
 use mathlib.Core.Option.{Option, none, some}
-use mathlib.Core.Bool.{Bool, true, false, cond}
+use mathlib.Core.Bool.{cond}
 use mathlib.Core.List.{List, [], _∷_, _++_}
 use Prim.Native.Nat.{ℕ, zero, suc, _+_, _-_}
 use lib.ListN.{length, take, drop, getD}

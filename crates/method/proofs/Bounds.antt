@@ -1,16 +1,15 @@
 -- Where the readers of fields, commands and content headers end, and that their tape records are in the room.
-use mathlib.Core.Path.{_≡_, refl, sym, ap, _∙_, subst}
-use mathlib.Core.Bool.{Bool, true, false}
+use mathlib.Core.Path.{_≡_}
 use mathlib.Core.Option.{Option, none, some}
-use mathlib.Core.List.{List, [], _∷_, _++_}
-use Prim.Native.Nat.{ℕ, zero, suc, _+_, _-_, _/_, _≤_, _<_}
+use mathlib.Core.List.{List, [], _∷_}
+use Prim.Native.Nat.{ℕ, _-_, _/_, _≤_}
 use native.Mathlib.Omega.{arith}
 use lib.ListN.{length, length-append}
 use lib.Dec.{leb}
 use Rattle.utf8.specs.Utf8.{utf8}
-use Rattle.types.specs.Answer.{Answer, given, refused, notWritten, notUtf8, unknownMethod, andThen, need}
+use Rattle.types.specs.Answer.{given}
 use Rattle.types.specs.Octets.{uintAt}
-use Rattle.types.specs.Strings.{octetsOf, spanAt, longStrAt, shortStrAt}
+use Rattle.types.specs.Strings.{octetsOf, spanAt, longStrAt}
 use Rattle.types.specs.declared.Span.{Span}
 use Rattle.types.proofs.Chain.{then-go, need-given, given-next, given-value}
 use Rattle.types.proofs.RoundTrip.{number-move, span-move, long-move, short-move}
@@ -18,8 +17,8 @@ use Rattle.tables.specs.Letters.{Letters}
 use Rattle.tables.proofs.ReadingLaws.{table-move}
 use Rattle.tables.proofs.TapeLaws.{length-flatten}
 use Rattle.method.specs.Fields.{Kind, number, shortStr, bits, login, table, Field, fixed, arg, Login, Located, Args}
-use Rattle.method.specs.Commands.{known, fieldsOf, Command, call}
-use Rattle.method.specs.Properties.{properties, select, flagsOf, Header, header}
+use Rattle.method.specs.Commands.{known, fieldsOf, Command}
+use Rattle.method.specs.Properties.{properties, select, flagsOf, Header}
 use Rattle.method.specs.Reading.{same, flagsIn, writtenAt, userLength, loginSpans, loginIn, argAt, argTape, tapeOf, fieldsAt, commandAt, headerAt, commandWithTape, headerWithTape}
 
 -- from p to q within the octets, with k records in the room

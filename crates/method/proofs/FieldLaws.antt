@@ -1,38 +1,34 @@
 -- A field list is read back as it was written, and cut short it is Truncated: once, over the list.
-use mathlib.Core.Path.{_≡_, refl, sym, ap, _∙_, subst}
+use mathlib.Core.Path.{_≡_, refl, sym, ap, _∙_}
 use mathlib.Core.Bool.{Bool, true, false}
-use mathlib.Core.Option.{Option, none, some}
+use mathlib.Core.Option.{none, some}
 use mathlib.Core.List.{List, [], _∷_, _++_}
-use Prim.Native.Nat.{ℕ, zero, suc, _+_, _-_, _*_, _^_, _/_, _%_, _≤_, _<_}
+use Prim.Native.Nat.{ℕ, suc, _+_, _-_, _*_, _^_, _/_, _%_, _≤_, _<_}
 use native.Mathlib.Omega.{arith}
 use native.Mathlib.Nat.{add-assoc, add-zero, two-pow-succ}
-use native.Mathlib.Numerals.{add-one}
-use lib.ListN.{length, take, drop, length-append}
-use lib.Seq.{take-append-seam, drop-append-seam, drop-append-add, length-take-le}
-use lib.Dec.{leb, ltb, eqb}
-use lib.Pow.{pow-pos, pow-mono}
+use lib.ListN.{length, length-append}
+use lib.Seq.{take-append-seam, drop-append-seam}
+use lib.Dec.{eqb}
+use lib.Pow.{pow-mono}
 use Rattle.utf8.specs.Utf8.{utf8}
-use Rattle.types.specs.Answer.{Answer, given, refused, truncated, notUtf8, notWritten, andThen, need}
-use Rattle.types.specs.Octets.{uintAt, octets}
-use Rattle.types.specs.Strings as string
-use Rattle.types.specs.Strings.{octetsOf, spanAt, longStrAt, longStr}
+use Rattle.types.specs.Answer.{given, refused, truncated, notWritten}
+use Rattle.types.specs.Octets.{octets}
+use Rattle.types.specs.Strings.{octetsOf, longStr}
 use Rattle.bits.specs.Flags.{bit, packBits}
 use Rattle.types.specs.declared.Span.{Span}
-use Rattle.types.proofs.Tests.{leb-yes, leb-no, yes-leb, no-leb, decide, eqb-yes}
+use Rattle.types.proofs.Tests.{eqb-yes}
 use Rattle.types.proofs.Standing.{Stands, Cut, stands-left, stands-right, cut-split}
 use Rattle.types.proofs.NumberLaws.{length-octets}
 use Rattle.types.proofs.RoundTrip.{FitShort, number-here, number-past, span-here, span-past, placeShort, short-here, short-cut, short-seen, placeLong, long-here, long-cut}
 use Rattle.tables.specs.Letters.{Letters}
-use Rattle.tables.specs.Forest.{size, TableMeaning, LocatedTable, meaningOf}
-use Rattle.tables.specs.Reading.{tableAt}
-use Rattle.tables.specs.Tape.{Record, flatten, forestOf, unflatten}
-use Rattle.tables.specs.Writing.{body, tableOctets}
+use Rattle.tables.specs.Tape.{Record, flatten}
+use Rattle.tables.specs.Writing.{body}
 use Rattle.tables.proofs.Fit.{FitForest, placeForest, size-place}
 use Rattle.tables.proofs.RoundTrip.{table-here, table-cut, forest-meaning}
 use Rattle.tables.proofs.TapeLaws.{length-flatten, forest-place}
-use Rattle.method.specs.Fields.{Kind, number, shortStr, bits, login, table, Field, fixed, arg, Login, Meaning, Located, Returned, Args}
+use Rattle.method.specs.Fields.{Kind, number, shortStr, bits, login, table, Field, fixed, arg, Login, Meaning, Located, Args}
 use Rattle.method.specs.Writing.{placed, howMany, loginText, argOctets, fieldOctets, NoNul, values, valuesIn}
-use Rattle.method.specs.Reading.{same, withFlag, flagsIn, writtenAt, oneMore, untilNul, userLength, loginSpans, loginIn, argAt, argTape, tapeOf, fieldsAt, returnedArg, returnedArgs, argMeaning, used, argsMeaning}
+use Rattle.method.specs.Reading.{same, flagsIn, oneMore, untilNul, loginSpans, argAt, argTape, tapeOf, fieldsAt, returnedArg, returnedArgs, argMeaning, used, argsMeaning}
 
 -- flags
 bit-odd : (b : Bool) (n : ℕ) → eqb ((bit b + 2 * n) % 2) 1 ≡ b

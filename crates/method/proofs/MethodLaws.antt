@@ -1,34 +1,32 @@
 -- Commands and content headers that their writers accept are read back as they were written.
-use mathlib.Core.Path.{_≡_, refl, sym, ap, _∙_, subst}
+use mathlib.Core.Path.{_≡_, refl, sym, ap, _∙_}
 use mathlib.Core.Bool.{Bool, true, false, _&&_, cond}
-use mathlib.Core.Option.{Option, none, some}
+use mathlib.Core.Option.{none, some}
 use mathlib.Core.List.{List, [], _∷_, _++_}
-use Prim.Native.Nat.{ℕ, zero, suc, _+_, _-_, _*_, _^_, _/_, _%_, _≤_, _<_}
+use Prim.Native.Nat.{ℕ, _+_, _-_, _*_, _^_, _/_, _≤_, _<_}
 use native.Mathlib.Omega.{arith}
-use native.Mathlib.Nat.{add-assoc, add-zero, two-pow-succ}
-use lib.ListN.{length, take, drop, length-append}
-use lib.Dec.{leb, ltb, eqb}
-use lib.Pow.{pow-pos}
+use native.Mathlib.Nat.{two-pow-succ}
+use lib.ListN.{length}
+use lib.Dec.{leb, eqb}
 use lib.Arith.{digits-mod}
 use Rattle.utf8.specs.Utf8.{utf8}
-use Rattle.types.specs.Answer.{Answer, given, refused, truncated, notUtf8, tooLong, notWritten, andThen, need}
-use Rattle.types.specs.Octets.{uintAt, octets}
+use Rattle.types.specs.Answer.{given, notUtf8, tooLong}
+use Rattle.types.specs.Octets.{octets}
 use Rattle.types.specs.Strings.{judgeLength}
-use Rattle.types.specs.Judgement.{test, orElse}
+use Rattle.types.specs.Judgement.{test}
 use Rattle.bits.specs.Flags.{bit}
-use Rattle.types.proofs.Tests.{leb-yes, leb-no, yes-leb, no-leb, decide}
-use Rattle.types.proofs.Standing.{Stands, Cut, stands-left, stands-right, cut-split}
-use Rattle.types.proofs.Chain.{test-none, orElse-none, then-go, need-given, given-next}
-use Rattle.types.proofs.RoundTrip.{number-here, number-past, short-fit}
+use Rattle.types.proofs.Tests.{leb-yes, leb-no, yes-leb}
+use Rattle.types.proofs.Standing.{Stands, stands-left, stands-right}
+use Rattle.types.proofs.Chain.{test-none, orElse-none}
+use Rattle.types.proofs.RoundTrip.{number-here, short-fit}
 use Rattle.tables.specs.Letters.{Letters}
-use Rattle.tables.specs.Tape.{Record}
-use Rattle.tables.specs.Writing.{body, judgeTable, tapeMeaning}
+use Rattle.tables.specs.Writing.{body, tapeMeaning}
 use Rattle.tables.proofs.JudgeLaws.{Octets, and-true, table-fit}
-use Rattle.method.specs.Fields.{Kind, number, shortStr, bits, login, table, Field, fixed, arg, Login, Meaning, Sent, Located, Args}
+use Rattle.method.specs.Fields.{Kind, number, shortStr, bits, login, table, Field, fixed, arg, Meaning, Sent, Located, Args}
 use Rattle.method.specs.Commands.{Row, commands, fieldsIn, orNone, known, fieldsOf, Command, call}
 use Rattle.method.specs.Properties.{properties, select, flagsNumber, flagsOf, Header, header}
-use Rattle.method.specs.Writing.{loginText, sentArgMeaning, sentArgsMeaning, sentCommandMeaning, sentHeaderMeaning, commandValues, headerValues, argOctets, fieldOctets, commandOctets, headerOctets, judgeArg, judgeArgs, judgeArgLength, judgeLengths, refusalOf, commandRefusal, headerRefusal, Typed, TypedAll, TypedCommand, TypedHeader, NoNulArg, NoNulArgs, NoNulCommand}
-use Rattle.method.specs.Reading.{fieldsAt, commandAt, headerAt, tapeOf, returnedArgs, argsMeaning, commandWithTape, headerWithTape, commandMeaning, headerMeaning}
+use Rattle.method.specs.Writing.{loginText, sentArgMeaning, sentArgsMeaning, sentCommandMeaning, sentHeaderMeaning, commandValues, headerValues, fieldOctets, commandOctets, headerOctets, judgeArg, judgeArgs, judgeArgLength, judgeLengths, commandRefusal, headerRefusal, Typed, TypedAll, TypedCommand, TypedHeader, NoNulArg, NoNulArgs, NoNulCommand}
+use Rattle.method.specs.Reading.{commandAt, headerAt, commandWithTape, headerWithTape, commandMeaning, headerMeaning}
 use Rattle.method.proofs.FieldLaws.{Fit, Fits, placeAll, fields-here, tape-sizes, args-meaning}
 
 -- Flags

@@ -6,7 +6,7 @@ use Prim.Native.Nat.{ℕ}
 use Rattle.utf8.specs.Utf8.{utf8}
 use Rattle.types.specs.Answer.{Refusal, truncated, notUtf8}
 use Rattle.types.specs.Strings.{octetsOf, judgeShortStr}
-use Rattle.types.specs.Judgement.{test, orElse}
+use Rattle.types.specs.Judgement.{test}
 use Rattle.types.specs.declared.Span.{Span}
 use Rattle.types.proofs.Chain.{test-none, orElse-none}
 use Rattle.tables.specs.Letters.{Letters}

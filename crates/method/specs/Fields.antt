@@ -1,6 +1,6 @@
 -- What a command or a content header is made of: a list of fields, fixed octets or arguments (document 01, "method.rs").
-use mathlib.Core.Bool.{Bool, true, false}
-use mathlib.Core.List.{List, [], _∷_, _++_}
+use mathlib.Core.Bool.{Bool, true}
+use mathlib.Core.List.{List, [], _∷_}
 use Prim.Native.Nat.{ℕ}
 use Rattle.types.specs.declared.Span.{Span}
 use Rattle.tables.specs.Forest.{TableMeaning, LocatedTable}

@@ -2,7 +2,7 @@
 -- (document 01, "Results and refusals" and "method.rs").
 use mathlib.Core.Path.{_≡_}
 use mathlib.Core.Bool.{Bool, true, false}
-use mathlib.Core.Option.{Option, none, some}
+use mathlib.Core.Option.{Option, none}
 use mathlib.Core.List.{List, [], _∷_, _++_}
 use Prim.Native.Nat.{ℕ, suc, _+_, _*_, _^_, _<_}
 use lib.ListN.{length}
@@ -19,7 +19,7 @@ use Rattle.writers.specs.Writers.{writeAt}
 use Rattle.tables.specs.Letters.{Letters}
 use Rattle.tables.specs.Forest.{size}
 use Rattle.tables.specs.Writing.{body, tableOctets, judgeTable, tapeMeaning}
-use Rattle.method.specs.Fields.{Kind, number, shortStr, bits, login, table, Field, fixed, arg, Login, Meaning, SentTable, Sent, Args}
+use Rattle.method.specs.Fields.{Kind, number, shortStr, bits, login, table, Field, fixed, arg, Login, Meaning, Sent, Args}
 use Rattle.method.specs.Commands.{known, fieldsOf, Command, call}
 use Rattle.method.specs.Properties.{properties, select, flagsNumber, Header, header}
 

@@ -1,16 +1,16 @@
 -- What a forest must be to be written, and where its octets then stand.
-use mathlib.Core.Path.{_≡_, refl, sym, ap, _∙_}
+use mathlib.Core.Path.{_≡_, refl}
 use mathlib.Core.Bool.{Bool, true, false}
-use mathlib.Core.List.{List, [], _∷_, _++_}
-use Prim.Native.Nat.{ℕ, zero, suc, _+_, _-_, _^_, _≤_, _<_}
+use mathlib.Core.List.{List, []}
+use Prim.Native.Nat.{ℕ, zero, suc, _+_, _-_, _^_, _<_}
 use lib.ListN.{length}
 use Rattle.types.specs.declared.Span.{Span}
 use Rattle.types.proofs.RoundTrip.{FitShort, placeShort}
 use Rattle.tables.specs.Letters as kind
 use Rattle.tables.specs.Letters.{Leaf, number, boolean, decimal, Kind, leaf, container, unknown, Letters, kindOf, isTable}
-use Rattle.tables.specs.Forest.{Forest, none, item, size, Words, words, PayloadMeaning, TableMeaning, LocatedTable}
-use Rattle.tables.specs.Reading.{Reader, noName, containerAt, valueAt}
-use Rattle.tables.specs.Writing.{leafOctets, payloadOctets, nameOctets, body}
+use Rattle.tables.specs.Forest.{none, item, size, Words, words, PayloadMeaning, TableMeaning, LocatedTable}
+use Rattle.tables.specs.Reading.{noName}
+use Rattle.tables.specs.Writing.{payloadOctets, nameOctets, body}
 
 abbrev pub noPayload : PayloadMeaning
 noPayload = record { first = 0; second = 0; text = [] }

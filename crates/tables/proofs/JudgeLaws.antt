@@ -1,26 +1,26 @@
 -- A tape that passes the writer's judgement means a forest that fits, with a record for each value.
-use mathlib.Core.Path.{_≡_, refl, sym, ap, _∙_, subst}
+use mathlib.Core.Path.{_≡_, refl, ap, _∙_}
 use mathlib.Core.Bool.{Bool, true, false, _&&_, cond}
-use mathlib.Core.Option.{Option, some}
+use mathlib.Core.Option.{Option}
 use mathlib.Core.List.{List, [], _∷_, _++_}
-use Prim.Native.Nat.{ℕ, zero, suc, _+_, _-_, _*_, _^_, _%_, _/_, _≤_, _<_}
+use Prim.Native.Nat.{ℕ, zero, suc, _+_, _-_, _^_, _≤_, _<_}
 use native.Mathlib.Omega.{arith}
 use lib.ListN.{length, take, drop, length-append, length-take, length-drop}
-use lib.Seq.{length-take-le, take-all}
-use lib.Dec.{leb, ltb, eqb, eqb→eq}
-use Rattle.types.specs.Answer.{Refusal, badTape, tooDeep}
+use lib.Seq.{take-all}
+use lib.Dec.{ltb, eqb, eqb→eq}
+use Rattle.types.specs.Answer.{badTape, tooDeep}
 use Rattle.types.specs.Octets.{octets}
 use Rattle.types.specs.Strings.{octetsOf, judgeShortStr}
 use Rattle.types.specs.Judgement.{test, orElse}
-use Rattle.types.specs.Records.{records, recordCount}
+use Rattle.types.specs.Records.{records}
 use Rattle.types.specs.declared.Span.{Span}
-use Rattle.types.proofs.Tests.{yes-leb, true-T, decide}
+use Rattle.types.proofs.Tests.{yes-leb, true-T}
 use Rattle.types.proofs.Standing.{length-zero}
 use Rattle.types.proofs.Chain.{test-none, orElse-none}
-use Rattle.types.proofs.RoundTrip.{FitShort, short-fit}
+use Rattle.types.proofs.RoundTrip.{short-fit}
 use Rattle.tables.specs.Letters as kind
 use Rattle.tables.specs.Letters.{Leaf, number, boolean, decimal, Kind, leaf, container, unknown, Letters, kindOf, isTable}
-use Rattle.tables.specs.Forest.{Forest, none, item, size, Words, PayloadMeaning, TableMeaning, LocatedTable, leafMeaning, payloadMeaning, meaningOf}
+use Rattle.tables.specs.Forest.{none, item, size, Words, PayloadMeaning, TableMeaning, LocatedTable, leafMeaning, payloadMeaning, meaningOf}
 use Rattle.tables.specs.Tape.{Record, tapeRecords, unflatten, forestOf}
 use Rattle.tables.specs.Writing.{leafOctets, payloadOctets, nameOctets, body, isKnown, hasLevel, inPool, judgeName, judgeLeaf, judgePayload, countOk, judgeRecord, judgeWithFuel, judgeRecords, judgeTable, judgeLone, judgeLoneValue, tapeMeaning}
 use Rattle.tables.proofs.Fit.{FitLeaf, FitName, FitValue, FitForest}
@@ -57,7 +57,7 @@ name-fit false pool i n e =
 passes : (a b : Bool) (i : ℕ) → test (a && b) (badTape i) Option.none ≡ Option.none → (a ≡ true) × (b ≡ true)
 passes a b i e = and-true a b ((test-none (a && b) (badTape i) Option.none e) .0)
 
-leaf-fit : (l : Leaf) (pool : List ℕ) (i : ℕ) (x : Words) → judgeLeaf l pool i x ≡ Option.none → length (leafOctets l (leafMeaning l pool x)) < 256 ^ 4
+leaf-fit : (l : Leaf) (pool : List ℕ) (i : ℕ) (x : Words) → judgeLeaf l pool i x ≡ Option.none → length (leafOctets l (leafMeaning l pool x)) < 256 ^ 4 + 4
     → FitLeaf l (leafMeaning l pool x)
 leaf-fit (number k) pool i x e h =
     let a = passes (ltb (x .first) (256 ^ k)) (eqb (x .second) 0) i e in
@@ -76,10 +76,15 @@ count-le (leaf l) n left e = omega (arith, eqb-is n 0 e)
 count-le (container b) n left e = yes-leb n left e
 count-le unknown n left e = let q : _≡_ {A = ℕ} 0 1 = cc in absurd (omega arith)
 
+no-records : (k : ℕ) → unflatten k [] ≡ none
+unfolding unflatten
+no-records zero = refl
+no-records (suc k) = refl
+
 module _ (letters : Letters) where
   value-fit : (k : Kind) (d : ℕ) (pool : List ℕ) (i : ℕ) (x : Words) (n left : ℕ) (u : TableMeaning) → isKnown k ≡ true → hasLevel k d ≡ true → judgePayload k pool i x ≡ Option.none
       → countOk k n left ≡ true → (n ≡ 0 → u ≡ none) → (length (body letters (isTable k) u) < 256 ^ 4 → FitForest letters (isTable k) (d - 1) u)
-      → length (payloadOctets k (payloadMeaning k pool x) (body letters (isTable k) u)) < 256 ^ 4
+      → length (payloadOctets k (payloadMeaning k pool x) (body letters (isTable k) u)) < 256 ^ 4 + 4
       → FitValue letters k d (payloadMeaning k pool x) u (λ b′ d′. FitForest letters b′ d′ u)
   value-fit (leaf l) d pool i x n left u ek eh ew ec z ih h = (leaf-fit l pool i x ew h, z (eqb-is n 0 ec))
   value-fit (container b) zero pool i x n left u ek eh ew ec z ih h = let q : _≡_ {A = ℕ} 0 1 = cc in absurd (omega arith)
@@ -133,7 +138,7 @@ module _ (letters : Letters) where
   unflatten-nil (suc k) pool rs n e = rw e
 
   pub judge-fit : (k d : ℕ) (b : Bool) (pool : List ℕ) (i : ℕ) (rs : List Record) → Octets letters → judgeWithFuel letters k d b pool i rs ≡ Option.none
-      → length (body letters b (meaningOf letters pool (unflatten k rs))) < 256 ^ 4 → FitForest letters b d (meaningOf letters pool (unflatten k rs))
+      → length (body letters b (meaningOf letters pool (unflatten k rs))) < 256 ^ 4 + 5 → FitForest letters b d (meaningOf letters pool (unflatten k rs))
   unfolding unflatten meaningOf body
   judge-fit zero d b pool i rs o e h = tt
   judge-fit (suc k) d b pool i [] o e h = tt
@@ -150,7 +155,7 @@ module _ (letters : Letters) where
         name-fit b pool i (r .name) (a .0 .name),
         letter-octet letters (r .letter) o (a .0 .known),
         value-fit sh d pool i (r .payload) (r .beneath) (length rs) u (a .0 .known) (a .0 .level) (a .0 .payload) (a .0 .count) (unflatten-nil k pool rs (r .beneath))
-            (λ l. judge-fit k (d - 1) (isTable sh) pool (i + 1) (take (r .beneath) rs) o (a .1) l) (omega arith),
+            (λ l. judge-fit k (d - 1) (isTable sh) pool (i + 1) (take (r .beneath) rs) o (a .1) (omega arith)) (omega arith),
         judge-fit k d b pool (i + 1 + r .beneath) (drop (r .beneath) rs) o (a .2) (omega arith),
       )
 
@@ -170,7 +175,7 @@ module _ (letters : Letters) where
   unfolding judgeTable judgeRecords tapeMeaning
   table-fit pool tape o e h =
       let rs = records tapeRecords tape in
-      judge-fit (length rs) 15 true pool 0 rs o ((orElse-none (judgeWithFuel letters (length rs) 15 true pool 0 rs) _ e) .0) h
+      judge-fit (length rs) 15 true pool 0 rs o ((orElse-none (judgeWithFuel letters (length rs) 15 true pool 0 rs) _ e) .0) (omega arith)
 
   -- has a record for each value
   pub table-size : (pool tape : List ℕ) → judgeTable letters pool tape ≡ Option.none → size (tapeMeaning letters pool tape) ≡ length (records tapeRecords tape)
@@ -235,12 +240,57 @@ module _ (letters : Letters) where
       let y : judgeWithFuel letters (length rs) 15 false pool (0 + 1 + r .beneath) (drop (r .beneath) rs) ≡ Option.none = rw d (judge-nil (length rs) 15 false pool (0 + 1 + r .beneath)) in
       (rw (a .0, x, y), n)
 
-  pub lone-fit : (pool tape : List ℕ) → Octets letters → judgeLoneValue letters pool tape ≡ Option.none → length (body letters false (tapeMeaning letters pool tape)) < 256 ^ 4
+  pub lone-fit : (pool tape : List ℕ) → Octets letters → judgeLoneValue letters pool tape ≡ Option.none → length (body letters false (tapeMeaning letters pool tape)) < 256 ^ 4 + 5
       → FitForest letters false 15 (tapeMeaning letters pool tape)
   unfolding judgeLoneValue tapeMeaning
   lone-fit pool tape o e h = go (records tapeRecords tape) ((orElse-none (judgeLone letters pool (records tapeRecords tape)) _ e) .0) h
     where
-      go : (rs : List Record) → judgeLone letters pool rs ≡ Option.none → length (body letters false (meaningOf letters pool (forestOf rs))) < 256 ^ 4
+      go : (rs : List Record) → judgeLone letters pool rs ≡ Option.none → length (body letters false (meaningOf letters pool (forestOf rs))) < 256 ^ 4 + 5
           → FitForest letters false 15 (meaningOf letters pool (forestOf rs))
       go [] e h = let z : _≡_ {A = ℕ} 0 1 = cc in absurd (omega arith)
       go (r ∷ rs) e h = judge-fit (suc (length rs)) 15 false pool 0 (r ∷ rs) o (lone-judge-fuel pool r rs e .0) h
+
+  -- its records pass as those of an array of one value do
+  pub lone-passes : (pool tape : List ℕ) → judgeLoneValue letters pool tape ≡ Option.none → judgeRecords letters 15 false pool 0 (records tapeRecords tape) ≡ Option.none
+  unfolding judgeLoneValue judgeRecords
+  lone-passes pool tape e = go (records tapeRecords tape) ((orElse-none (judgeLone letters pool (records tapeRecords tape)) _ e) .0)
+    where
+      go : (rs : List Record) → judgeLone letters pool rs ≡ Option.none → judgeWithFuel letters (length rs) 15 false pool 0 rs ≡ Option.none
+      go [] e = let z : _≡_ {A = ℕ} 0 1 = cc in absurd (omega arith)
+      go (r ∷ rs) e = lone-judge-fuel pool r rs e .0
+
+  -- has a record for each value
+  pub lone-size : (pool tape : List ℕ) → judgeLoneValue letters pool tape ≡ Option.none → size (tapeMeaning letters pool tape) ≡ length (records tapeRecords tape)
+  unfolding judgeLoneValue tapeMeaning
+  lone-size pool tape e = go (records tapeRecords tape) ((orElse-none (judgeLone letters pool (records tapeRecords tape)) _ e) .0)
+    where
+      go : (rs : List Record) → judgeLone letters pool rs ≡ Option.none → size (meaningOf letters pool (forestOf rs)) ≡ length rs
+      go [] e = let z : _≡_ {A = ℕ} 0 1 = cc in absurd (omega arith)
+      go (r ∷ rs) e =
+          size-meaning letters pool (forestOf (r ∷ rs))
+          ∙ size-unflatten (suc (length rs)) (r ∷ rs) (omega arith) (judge-counts (suc (length rs)) 15 false pool 0 (r ∷ rs) (lone-judge-fuel pool r rs e .0))
+
+  -- and is one value with those beneath it
+  pub record One (m : TableMeaning) : Type 0 where
+    pub name : List ℕ
+    pub letter : ℕ
+    pub payload : PayloadMeaning
+    pub beneath : TableMeaning
+    pub same : m ≡ item name letter payload beneath none
+
+  pub lone-one : (pool tape : List ℕ) → judgeLoneValue letters pool tape ≡ Option.none → One (tapeMeaning letters pool tape)
+  unfolding judgeLoneValue tapeMeaning unflatten meaningOf
+  lone-one pool tape e = go (records tapeRecords tape) ((orElse-none (judgeLone letters pool (records tapeRecords tape)) _ e) .0)
+    where
+      go : (rs : List Record) → judgeLone letters pool rs ≡ Option.none → One (meaningOf letters pool (forestOf rs))
+      go [] e = let z : _≡_ {A = ℕ} 0 1 = cc in absurd (omega arith)
+      go (r ∷ rs) e =
+          let n = lone-judge-fuel pool r rs e .1 in
+          let d : drop (r .beneath) rs ≡ [] = length-zero (drop (r .beneath) rs) (omega (arith, length-drop (r .beneath) rs)) in
+          record {
+            name = octetsOf pool (r .name);
+            letter = r .letter;
+            payload = payloadMeaning (kindOf letters (r .letter)) pool (r .payload);
+            beneath = meaningOf letters pool (unflatten (length rs) (take (r .beneath) rs));
+            same = rw d (ap (λ (t : LocatedTable). item (octetsOf pool (r .name)) (r .letter) (payloadMeaning (kindOf letters (r .letter)) pool (r .payload)) (meaningOf letters pool (unflatten (length rs) (take (r .beneath) rs))) (meaningOf letters pool t)) (no-records (length rs)));
+          }

@@ -1,22 +1,22 @@
 -- The equations that the readers meet, with no fuel in them, and where an answer ends: what a proof about code goes by.
 use mathlib.Core.Path.{_≡_, refl, sym, ap, _∙_}
 use mathlib.Core.Bool.{Bool, true, false}
-use mathlib.Core.List.{List, [], _∷_, _++_}
-use Prim.Native.Nat.{ℕ, zero, suc, _+_, _-_, _≤_, _<_, min}
+use mathlib.Core.List.{List}
+use Prim.Native.Nat.{ℕ, zero, suc, _+_, _-_, _≤_, _<_}
 use native.Mathlib.Omega.{arith}
 use native.Mathlib.Numerals.{sub-one}
 use lib.ListN.{length}
-use lib.Dec.{leb, ltb}
-use Rattle.types.specs.Answer.{Answer, given, refused, Refusal, unsupportedFieldType, tooDeep, tapeFull, andThen, need}
+use lib.Dec.{ltb}
+use Rattle.types.specs.Answer.{Answer, given, refused, Refusal, truncated, unsupportedFieldType, tooDeep, tapeFull, andThen}
 use Rattle.types.specs.Octets.{uintAt}
 use Rattle.types.specs.Strings.{longStrAt, shortStrAt}
 use Rattle.types.specs.declared.Span.{Span}
 use Rattle.types.proofs.Tests.{leb-yes, leb-no, yes-leb, no-leb, decide}
-use Rattle.types.proofs.Chain.{then-go, then-agree, need-given, need-agree, given-next, given-value}
-use Rattle.types.proofs.RoundTrip.{number-move, span-move, long-move, short-move, long-start}
+use Rattle.types.proofs.Chain.{then-go, then-agree, need-given, given-next, given-value}
+use Rattle.types.proofs.RoundTrip.{number-move, number-past, long-move, short-move, long-start}
 use Rattle.tables.specs.Letters as kind
 use Rattle.tables.specs.Letters.{Leaf, number, boolean, decimal, Kind, leaf, container, unknown, Letters, kindOf}
-use Rattle.tables.specs.Forest.{Forest, none, item, size, Words, words, LocatedTable}
+use Rattle.tables.specs.Forest.{none, item, size, Words, words, LocatedTable}
 use Rattle.tables.specs.Reading.{Reader, Value, leafAt, spanWords, noName, nameAt, entriesWithFuel, entriesAt, containerAt, payloadAt, valueWith, valueAt, tableAt, loneValueAt}
 
 -- Where an answer ends: from p on, so many records within the octets and within the room
@@ -260,3 +260,17 @@ module _ (letters : Letters) where
   module _ (d : ℕ) (s : List ℕ) (p room c q : ℕ) (read : uintAt 1 s p ≡ given c q) where
     pub value-after : valueAt letters d s p room ≡ payloadAt d (belowAt d) c (kindOf letters c) s q room
     value-after = value-is d s p room ∙ (rw read)
+
+  -- a lone value is the only entry of an array whose end is an octet on
+  pub lone-entries : (s : List ℕ) (p room : ℕ) → p < length s → entriesAt (valueAt letters 15) false s p (p + 1) room ≡ loneValueAt letters s p room
+  unfolding loneValueAt nameAt
+  lone-entries s p room h =
+      entries-step (valueAt letters 15) false s (value-move 15) p (p + 1) room (omega arith) (omega arith)
+      ∙ then-agree (valueAt letters 15 s p room) _ _
+      (λ v r e.
+      let m = value-move 15 s p room v r e in
+      rw (entries-end (valueAt letters 15) false s (value-move 15) r (p + 1) (room - suc (size (v .beneath))) (omega (arith, m .far))))
+
+  pub lone-cut : (s : List ℕ) (p room : ℕ) → length s ≤ p → loneValueAt letters s p room ≡ refused truncated
+  unfolding loneValueAt
+  lone-cut s p room h = rw (value-refused 15 s p room truncated (number-past 1 s p (omega arith)))

@@ -1,28 +1,28 @@
 -- What a reader puts on the tape passes a writer's judgement over the same octets.
 use mathlib.Core.Path.{_≡_, refl, sym, ap, _∙_, subst}
-use mathlib.Core.Bool.{Bool, true, false, _&&_}
-use mathlib.Core.Option.{Option, some}
-use mathlib.Core.List.{List, [], _∷_, _++_}
-use Prim.Native.Nat.{ℕ, zero, suc, _+_, _-_, _*_, _^_, _≤_, _<_, min}
+use mathlib.Core.Bool.{Bool, true, false}
+use mathlib.Core.Option.{Option}
+use mathlib.Core.List.{List, _++_, append-nil}
+use Prim.Native.Nat.{ℕ, zero, suc, _+_, _-_, _^_, _≤_, _<_, min}
 use native.Mathlib.Omega.{arith}
 use lib.ListN.{length, take, drop, length-append, length-drop}
 use lib.Seq.{length-take-le, take-append-seam, drop-append-seam}
-use lib.Dec.{leb, ltb, eqb}
+use lib.Dec.{ltb}
 use Rattle.utf8.specs.Utf8.{utf8}
-use Rattle.types.specs.Answer.{Answer, given, refused, badTape, tooDeep, tapeFull, notUtf8, andThen, need}
+use Rattle.types.specs.Answer.{given, notUtf8}
 use Rattle.types.specs.Octets.{uintAt}
 use Rattle.types.specs.Strings.{octetsOf, spanAt, longStrAt, shortStrAt}
 use Rattle.types.specs.declared.Span.{Span}
 use Rattle.types.proofs.NumberLaws.{Octets, uintAt-lt}
-use Rattle.types.proofs.Tests.{leb-yes, leb-no, yes-leb, no-leb, decide}
-use Rattle.types.proofs.Chain.{then-go, need-given, given-next, given-value}
-use Rattle.types.proofs.RoundTrip.{number-move, span-move, long-start}
+use Rattle.types.proofs.Tests.{leb-yes, yes-leb, no-leb, eqb-yes, decide}
+use Rattle.types.proofs.Chain.{then-go, need-given, given-value}
+use Rattle.types.proofs.RoundTrip.{span-move, long-start}
 use Rattle.tables.specs.Letters as kind
 use Rattle.tables.specs.Letters.{Leaf, number, boolean, decimal, Kind, leaf, container, unknown, Letters, kindOf, isTable}
-use Rattle.tables.specs.Forest.{Forest, none, item, size, Words, words, LocatedTable}
-use Rattle.tables.specs.Reading.{Reader, Value, leafAt, noName, nameAt, entriesWithFuel, entriesAt, containerAt, payloadAt, valueAt, tableAt}
-use Rattle.tables.specs.Tape.{Record, flatten}
-use Rattle.tables.specs.Writing.{isKnown, hasLevel, inPool, judgeName, judgeLeaf, judgePayload, countOk, judgeRecord, judgeWithFuel, judgeRecords}
+use Rattle.tables.specs.Forest.{none, item, size, Words, words, LocatedTable}
+use Rattle.tables.specs.Reading.{Value, leafAt, noName, nameAt, entriesWithFuel, entriesAt, containerAt, payloadAt, valueAt, tableAt, loneValueAt}
+use Rattle.tables.specs.Tape.{flatten}
+use Rattle.tables.specs.Writing.{isKnown, hasLevel, judgeName, judgeLeaf, judgePayload, countOk, judgeRecord, judgeWithFuel, judgeRecords, judgeLone}
 use Rattle.tables.proofs.ReadingLaws.{entries-fuel-zero, entries-fuel-end, entries-fuel-step, belowAt, value-is}
 use Rattle.tables.proofs.TapeLaws.{length-flatten}
 use Rattle.tables.proofs.JudgeLaws.{judge-nil}
@@ -195,3 +195,24 @@ module _ (s : List ℕ) (octet : Octets s) where
     pub table-relayed : (p room : ℕ) (t : LocatedTable) (n : ℕ) → tableAt letters s p room ≡ given t n → judgeRecords letters 15 true s 0 (flatten t) ≡ Option.none
     unfolding tableAt judgeRecords
     table-relayed p room t n e = container-judged 15 (value-sound 15) true p room t n e 0 (length (flatten t)) (omega arith)
+
+    -- and a lone value's
+    pub value-relayed : (p room : ℕ) (t : LocatedTable) (n : ℕ) → loneValueAt letters s p room ≡ given t n → judgeLone letters s (flatten t) ≡ Option.none
+    unfolding loneValueAt flatten judgeRecord judgeRecords
+    value-relayed p room t n e =
+        then-go (valueAt letters 15 s p room) _ t n e
+        (λ v q e1 h1.
+        let u = v .beneath in
+        let sound = value-sound 15 p room v q e1 in
+        let l : length (flatten u) ≡ size u = length-flatten u in
+        rw (
+          ← (given-value (item noName (v .letter) (v .payload) u none) t q n h1),
+          append-nil (flatten u),
+          sound .known,
+          sound .level,
+          sound .payload 0,
+          sound .count (length (flatten u)) (omega arith),
+          l,
+          eqb-yes (size u),
+        )
+        (ap (λ (k : ℕ). judgeWithFuel letters k 14 (isTable (kindOf letters (v .letter))) s 1 (flatten u)) (sym l) ∙ sound .below 1 (length (flatten u)) (omega arith)))

@@ -1,19 +1,17 @@
 -- Room for records: with as many as an accepted value or table takes, or more, the answer is the same, and with fewer it is TapeFull.
-use mathlib.Core.Path.{_≡_, refl, sym, ap, _∙_, subst}
-use mathlib.Core.Bool.{Bool, true, false}
-use mathlib.Core.List.{List, [], _∷_, _++_}
-use Prim.Native.Nat.{ℕ, zero, suc, _+_, _-_, _≤_, _<_}
+use mathlib.Core.Path.{_≡_, sym, ap, _∙_}
+use mathlib.Core.Bool.{Bool, true}
+use mathlib.Core.List.{List}
+use Prim.Native.Nat.{ℕ, zero, suc, _+_, _-_, _≤_}
 use native.Mathlib.Omega.{arith}
-use lib.ListN.{length}
 use lib.Dec.{leb, ltb}
-use Rattle.types.specs.Answer.{Answer, given, refused, tooDeep, tapeFull, andThen, need}
+use Rattle.types.specs.Answer.{Answer, given, tapeFull, need}
 use Rattle.types.specs.Octets.{uintAt}
 use Rattle.types.specs.Strings.{longStrAt}
-use Rattle.types.specs.declared.Span.{Span}
 use Rattle.types.proofs.Tests.{leb-yes, leb-no, yes-leb, no-leb, decide}
 use Rattle.types.proofs.Chain.{then-go, need-given, given-next, given-value}
-use Rattle.tables.specs.Letters.{Leaf, Kind, leaf, container, unknown, Letters, kindOf}
-use Rattle.tables.specs.Forest.{Forest, none, item, size, Words, words, LocatedTable}
+use Rattle.tables.specs.Letters.{Kind, leaf, container, unknown, Letters, kindOf}
+use Rattle.tables.specs.Forest.{none, size, LocatedTable}
 use Rattle.tables.specs.Reading.{Reader, Value, leafAt, nameAt, entriesWithFuel, entriesAt, containerAt, payloadAt, valueAt, tableAt}
 use Rattle.tables.proofs.ReadingLaws.{entries-fuel-zero, entries-fuel-end, entries-fuel-step, belowAt, value-is}
 
@@ -27,7 +25,7 @@ Roomy value = (s : List ℕ) (p room : ℕ) (v : Value) (n : ℕ) → value s p 
 abbrev pub RoomyBelow : (Bool → Reader LocatedTable) → Type 0
 RoomyBelow below = (b : Bool) (s : List ℕ) (p room : ℕ) (t : LocatedTable) (n : ℕ) → below b s p room ≡ given t n → (room′ : ℕ) → below b s p room′ ≡ within room′ (size t) t n
 
-entries-fuel-room : (value : Reader Value) → Roomy value → (b : Bool) (s : List ℕ) (k p end room : ℕ) (t : LocatedTable) (n : ℕ) → entriesWithFuel value b k s p end room ≡ given t n
+pub entries-fuel-room : (value : Reader Value) → Roomy value → (b : Bool) (s : List ℕ) (k p end room : ℕ) (t : LocatedTable) (n : ℕ) → entriesWithFuel value b k s p end room ≡ given t n
     → (room′ : ℕ) → entriesWithFuel value b k s p end room′ ≡ within room′ (size t) t n
 unfolding size
 entries-fuel-room value roomy b s zero p end room t n e room′ =

@@ -1,26 +1,24 @@
 -- A table is read back as it was written, and cut short it is Truncated.
-use mathlib.Core.Path.{_≡_, refl, sym, ap, _∙_, subst}
+use mathlib.Core.Path.{_≡_, refl, sym, ap, _∙_}
 use mathlib.Core.Bool.{Bool, true, false}
-use mathlib.Core.List.{List, [], _∷_, _++_}
+use mathlib.Core.List.{List, [], _++_}
 use Prim.Native.Nat.{ℕ, zero, suc, _+_, _-_, _^_, _≤_, _<_, min}
 use native.Mathlib.Omega.{arith}
-use native.Mathlib.Nat.{add-assoc, add-zero}
+use native.Mathlib.Nat.{add-zero}
 use lib.ListN.{length, take, drop, length-append}
-use lib.Dec.{leb, ltb}
-use Rattle.types.specs.Answer.{Answer, given, refused, truncated, andThen, need}
-use Rattle.types.specs.Octets.{uintAt, octets}
-use Rattle.types.specs.Strings.{octetsOf, longStrAt, shortStr, longStr}
-use Rattle.types.specs.declared.Span.{Span}
-use Rattle.types.proofs.Tests.{leb-yes, leb-no}
+use Rattle.types.specs.Answer.{given, refused, truncated}
+use Rattle.types.specs.Octets.{octets}
+use Rattle.types.specs.Strings.{octetsOf, shortStr, longStr}
+use Rattle.types.proofs.Tests.{leb-yes}
 use Rattle.types.proofs.Standing.{Stands, Cut, stands-left, stands-right}
 use Rattle.types.proofs.NumberLaws.{length-octets}
-use Rattle.types.proofs.RoundTrip.{number-here, short-here, short-seen, long-here, long-cut, placeLong}
+use Rattle.types.proofs.RoundTrip.{number-here, short-here, short-seen, long-here, long-cut}
 use Rattle.tables.specs.Letters as kind
 use Rattle.tables.specs.Letters.{Leaf, number, boolean, decimal, Kind, leaf, container, unknown, Letters, kindOf, isTable}
-use Rattle.tables.specs.Forest.{Forest, none, item, size, Words, words, PayloadMeaning, TableMeaning, LocatedTable, leafMeaning, payloadMeaning, meaningOf}
-use Rattle.tables.specs.Reading.{Reader, Value, leafAt, noName, nameAt, entriesWithFuel, entriesAt, containerAt, payloadAt, valueAt, tableAt, loneValueAt}
+use Rattle.tables.specs.Forest.{none, item, size, words, PayloadMeaning, TableMeaning, leafMeaning, payloadMeaning, meaningOf}
+use Rattle.tables.specs.Reading.{leafAt, noName, nameAt, entriesWithFuel, entriesAt, containerAt, payloadAt, valueAt, tableAt, loneValueAt}
 use Rattle.tables.specs.Writing.{leafOctets, payloadOctets, nameOctets, body, tableOctets}
-use Rattle.tables.proofs.Fit.{noPayload, FitLeaf, FitName, FitValue, FitForest, placeLeaf, placePayload, placeName, placeForest, size-place}
+use Rattle.tables.proofs.Fit.{FitLeaf, FitName, FitValue, FitForest, placeLeaf, placePayload, placeName, placeForest, size-place}
 use Rattle.tables.proofs.ReadingLaws.{entries-fuel-end, entries-fuel-step, belowAt, value-is}
 
 pub leaf-here : {s : List ℕ} {p : ℕ} (l : Leaf) (x : PayloadMeaning) → FitLeaf l x → Stands s p (leafOctets l x) → leafAt l s p ≡ given (placeLeaf l p x) (p + length (leafOctets l x))

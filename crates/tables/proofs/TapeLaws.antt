@@ -1,19 +1,22 @@
 -- A forest flattened to tape records and unflattened is the same again, and so are records; records that were written are read again.
-use mathlib.Core.Path.{_≡_, refl, sym, ap, _∙_, subst}
-use mathlib.Core.Bool.{Bool, true, false}
+use mathlib.Core.Path.{_≡_, refl, sym, ap, _∙_}
+use mathlib.Core.Bool.{Bool}
 use mathlib.Core.List.{List, [], _∷_, _++_, append-assoc, IsPrefix}
 use Prim.Native.Nat.{ℕ, zero, suc, _+_, _-_, _*_, _/_, _≤_, _<_}
 use native.Mathlib.Omega.{arith}
-use native.Mathlib.Nat.{zero-add}
-use lib.ListN.{length, take, drop, length-append, length-take, length-drop, take-append-drop}
-use lib.Seq.{length-take-le, take-append-seam, drop-append-seam, take-at, drop-at}
+use native.Mathlib.Nat.{zero-add, add-zero}
+use lib.ListN.{length, take, drop, getD, length-append, length-take, length-drop, take-append-drop}
+use lib.Seq.{length-take-le, take-append-seam, drop-append-seam, take-at, drop-at, getD-take, getD-drop}
 use Rattle.types.specs.Memory.{splice}
-use Rattle.types.specs.Records.{RecordFormat, concatMap, firstRecords, recordCount, records}
+use Rattle.types.specs.Records.{RecordFormat, concatMap, firstRecords, records}
 use Rattle.types.proofs.Standing.{length-zero}
+use Rattle.types.proofs.Tests.{leb-yes, leb-no}
+use Rattle.types.specs.Answer.{badTape}
+use mathlib.Core.Logic.{inl, inr}
 use Rattle.tables.specs.Letters.{Letters}
-use Rattle.tables.specs.Forest.{Forest, none, item, size, LocatedTable, TableMeaning, meaningOf}
-use Rattle.tables.specs.Tape.{Record, tapeRecords, flatten, unflatten, forestOf}
-use Rattle.tables.proofs.Fit.{placeForest, size-place}
+use Rattle.tables.specs.Forest.{none, item, size, words, LocatedTable, TableMeaning, meaningOf}
+use Rattle.tables.specs.Tape.{Record, recordAt, flatten, unflatten, forestOf}
+use Rattle.tables.proofs.Fit.{placeForest}
 
 pub length-flatten : (t : LocatedTable) → length (flatten t) ≡ size t
 unfolding flatten size
@@ -24,6 +27,10 @@ length-flatten (item n c x u t) = ap suc (length-append (flatten u) (flatten t) 
 pub length-concatMap : {R : Type 0} (C : RecordFormat R) → ((r : R) → length (C .words r) ≡ C .size) → (rs : List R) → length (concatMap (C .words) rs) ≡ length rs * C .size
 length-concatMap C h [] = omega arith
 length-concatMap C h (r ∷ rs) = length-append (C .words r) (concatMap (C .words) rs) ∙ (rw (h r, length-concatMap C h rs) (omega arith))
+
+pub concatMap-append : {R : Type 0} (f : R → List ℕ) (xs ys : List R) → concatMap f (xs ++ ys) ≡ concatMap f xs ++ concatMap f ys
+concatMap-append f [] ys = refl
+concatMap-append f (x ∷ xs) ys = ap (λ l. f x ++ l) (concatMap-append f xs ys) ∙ sym (append-assoc (f x) (concatMap f xs) (concatMap f ys))
 
 -- a forest, flattened and unflattened
 pub unflatten-flatten : (t : LocatedTable) (k : ℕ) → length (flatten t) ≤ k → unflatten k (flatten t) ≡ t
@@ -130,3 +137,27 @@ forest-step r rs =
       unflatten-agree (length rs) (length (take (r .beneath) rs)) (take (r .beneath) rs) (omega arith) (omega arith),
       unflatten-agree (length rs) (length (drop (r .beneath) rs)) (drop (r .beneath) rs) (omega arith) (omega arith),
     )
+
+-- a record where there is one, word by word
+pub record-there : (tape : List ℕ) (k : ℕ) → k < length tape / 6
+    → recordAt tape k
+    ≡ inl (record {
+      letter = getD tape (k * 6) 0;
+      name = record { start = getD tape (k * 6 + 1) 0; len = getD tape (k * 6 + 2) 0 };
+      payload = words (getD tape (k * 6 + 3) 0) (getD tape (k * 6 + 4) 0);
+      beneath = getD tape (k * 6 + 5) 0;
+    })
+unfolding recordAt
+record-there tape k h = rw (leb-yes (suc k) (length tape / 6) h) (ap inl (λ i. record {
+  letter = (word 0 (omega arith) ∙ ap (λ (m : ℕ). getD tape m 0) (add-zero (k * 6))) i;
+  name = record { start = word 1 (omega arith) i; len = word 2 (omega arith) i };
+  payload = words (word 3 (omega arith) i) (word 4 (omega arith) i);
+  beneath = word 5 (omega arith) i;
+}))
+  where
+    word : (j : ℕ) → j < 6 → getD (take 6 (drop (k * 6) tape)) j 0 ≡ getD tape (k * 6 + j) 0
+    word j l = getD-take 6 (drop (k * 6) tape) j 0 l ∙ getD-drop (k * 6) tape j 0
+
+pub record-missing : (tape : List ℕ) (k : ℕ) → length tape / 6 ≤ k → recordAt tape k ≡ inr (badTape k)
+unfolding recordAt
+record-missing tape k h = rw (leb-no (suc k) (length tape / 6) (omega arith))

@@ -1,8 +1,7 @@
 -- The values of tables in reading order, each with those beneath it (first child, next sibling), as located and by their meaning: document 01,
 -- "types.rs: tables and the tape". N is a name, W a payload.
 use Prim.Native.Nat.{ℕ, suc, _+_}
-use mathlib.Core.Bool.{Bool, true, false}
-use mathlib.Core.List.{List, [], _∷_}
+use mathlib.Core.List.{List, []}
 use Rattle.types.specs.Strings.{octetsOf}
 use Rattle.types.specs.declared.Span.{Span}
 use Rattle.tables.specs.Letters.{Leaf, number, boolean, decimal, longStr, shortStr, Kind, leaf, container, unknown, Letters, kindOf}

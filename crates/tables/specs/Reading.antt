@@ -1,5 +1,5 @@
 -- Reading a table, an array or a lone value at a position: 0-9-1, 4.2.5.5, and document 01, "types.rs: tables and the tape".
-use Prim.Native.Nat.{ℕ, zero, suc, _+_, _-_, min}
+use Prim.Native.Nat.{ℕ, zero, suc, _-_, min}
 use mathlib.Core.Bool.{Bool, true, false, cond}
 use mathlib.Core.List.{List}
 use lib.Dec.{ltb}
@@ -8,7 +8,7 @@ use Rattle.types.specs.Octets.{uintAt}
 use Rattle.types.specs.Strings.{longStrAt, shortStrAt}
 use Rattle.types.specs.declared.Span.{Span}
 use Rattle.tables.specs.Letters.{Leaf, number, boolean, decimal, longStr, shortStr, Kind, leaf, container, unknown, Letters, kindOf}
-use Rattle.tables.specs.Forest.{Forest, none, item, size, Words, words, LocatedTable}
+use Rattle.tables.specs.Forest.{none, item, size, Words, words, LocatedTable}
 
 -- octets, position, tape records left
 abbrev pub Reader : Type 0 → Type 0

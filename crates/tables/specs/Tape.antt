@@ -2,11 +2,16 @@
 use Prim.Native.Nat.{ℕ, zero, suc, _+_, _-_, _*_}
 use mathlib.Core.List.{List, [], _∷_, _++_}
 use lib.ListN.{length, take, drop, getD}
-use Rattle.types.specs.Answer.{Answer, given, refused, andThen}
+use mathlib.Core.Logic.{_⊎_, inl, inr}
+use mathlib.Core.Bool.{cond}
+use lib.Dec.{ltb}
+use Rattle.types.specs.Answer.{Answer, Refusal, given, refused, badTape, andThen}
 use Rattle.types.specs.Memory.{splice, Outcome, outcome}
 use Rattle.types.specs.Records.{RecordFormat, concatMap, recordCount}
 use Rattle.types.specs.declared.Span.{Span}
-use Rattle.tables.specs.Forest.{Forest, none, item, size, Words, words, LocatedTable}
+use Rattle.tables.specs.Letters.{Letters}
+use Rattle.tables.specs.Forest.{none, item, size, Words, words, LocatedTable}
+use Rattle.tables.specs.Reading.{tableAt, loneValueAt}
 
 pub record Record : Type 0 where
   pub letter : ℕ
@@ -30,6 +35,11 @@ tapeRecords =
             beneath = getD ws 5 0;
           };
     }
+
+-- record number k of a tape, or BadTape(k) where there is none
+unfoldable pub recordAt : List ℕ → ℕ → Record ⊎ Refusal
+recordAt tape k =
+    cond (ltb k (recordCount tapeRecords tape)) (inl (tapeRecords .read (take (tapeRecords .size) (drop (k * tapeRecords .size) tape)))) (inr (badTape k))
 
 -- the records of a forest
 unfoldable pub flatten : LocatedTable → List Record
@@ -69,3 +79,11 @@ fillTape used tape (refused r) = outcome (refused r) tape
 -- a table or a lone value is nothing but its records
 abbrev pub asTape : Answer LocatedTable → Answer (WithTape Unit)
 asTape a = andThen a (λ t n. given (record { value = tt; tape = flatten t }) n)
+
+-- Readers onto the records behind the used ones, with all of the tape at exit
+
+unfoldable pub readTable : Letters → List ℕ → ℕ → ℕ → List ℕ → Outcome (WithCount Unit)
+readTable letters s at used tape = fillTape used tape (asTape (tableAt letters s at (roomOf used tape)))
+
+unfoldable pub readLoneValue : Letters → List ℕ → ℕ → ℕ → List ℕ → Outcome (WithCount Unit)
+readLoneValue letters s at used tape = fillTape used tape (asTape (loneValueAt letters s at (roomOf used tape)))

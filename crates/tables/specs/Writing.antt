@@ -1,5 +1,5 @@
 -- The octets of tables and values, and how a writer judges the tape that is given to it: document 01, "types.rs: tables and the tape".
-use Prim.Native.Nat.{ℕ, zero, suc, _+_, _-_, _*_, _^_, _%_}
+use Prim.Native.Nat.{ℕ, zero, suc, _+_, _-_, _^_, _%_}
 use mathlib.Core.Bool.{Bool, true, false, _&&_}
 use mathlib.Core.List.{List, [], _∷_, _++_}
 use mathlib.Core.Option.{Option, some}
@@ -15,7 +15,7 @@ use Rattle.types.specs.Records.{records, recordCount}
 use Rattle.types.specs.declared.Span.{Span}
 use Rattle.tables.specs.Letters as kind
 use Rattle.tables.specs.Letters.{Leaf, number, boolean, decimal, Kind, leaf, container, unknown, Letters, kindOf, isTable}
-use Rattle.tables.specs.Forest.{Forest, none, item, Words, PayloadMeaning, TableMeaning, meaningOf}
+use Rattle.tables.specs.Forest.{none, item, Words, PayloadMeaning, TableMeaning, meaningOf}
 use Rattle.tables.specs.Tape.{Record, tapeRecords, forestOf}
 
 -- Octets
@@ -75,6 +75,10 @@ countOk (leaf l) n left = eqb n 0
 countOk (container named) n left = leb n left
 countOk unknown n left = false
 
+-- less than a record is left over at the tape's end
+abbrev pub wholeTape : List ℕ → Option Refusal
+wholeTape tape = test (eqb (length tape % tapeRecords .size) 0) (badTape (recordCount tapeRecords tape)) Option.none
+
 module _ (letters : Letters) where
   -- the body of a table (named) or of an array
   unfoldable pub body : Bool → TableMeaning → List ℕ
@@ -105,10 +109,6 @@ module _ (letters : Letters) where
 
   unfoldable pub judgeRecords : ℕ → Bool → List ℕ → ℕ → List Record → Option Refusal
   judgeRecords d named pool i rs = judgeWithFuel (length rs) d named pool i rs
-
-  -- less than a record is left over at the tape's end
-  abbrev wholeTape : List ℕ → Option Refusal
-  wholeTape tape = test (eqb (length tape % tapeRecords .size) 0) (badTape (recordCount tapeRecords tape)) Option.none
 
   -- a table's tape, over a pool
   unfoldable pub judgeTable : List ℕ → List ℕ → Option Refusal

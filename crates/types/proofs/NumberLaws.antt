@@ -1,6 +1,6 @@
 -- Laws of `numberAt` and `uintAt`, over the width k.
-use mathlib.Core.Path.{_≡_, refl, sym, ap, _∙_, subst, subst⁻¹}
-use mathlib.Core.List.{List, [], _∷_, _++_}
+use mathlib.Core.Path.{_≡_, refl, ap, _∙_, subst, subst⁻¹}
+use mathlib.Core.List.{List, [], _∷_}
 use mathlib.Core.Bool.{Bool, true, false, cond}
 use Prim.Native.Nat.{ℕ, zero, suc, _+_, _*_, _/_, _%_, _^_, _≤_, _<_}
 use native.Mathlib.Nat.{pow-suc, pow-le-pow-right}
@@ -10,7 +10,7 @@ use borrow.Author.Tests.{leb-true, leb-false, le-leb, lt-leb}
 use lib.Arith.{digits-lt}
 use lib.Dec.{lit<, leb}
 use lib.ListN.{length, getD, length-append}
-use Rattle.types.specs.Answer.{Refusal, Answer, given, refused, truncated}
+use Rattle.types.specs.Answer.{Refusal, given, refused, truncated}
 use Rattle.types.specs.Octets.{numberAt, uintAt, octets}
 
 -- every element is an octet

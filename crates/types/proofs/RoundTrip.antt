@@ -1,23 +1,23 @@
 -- Numbers and strings are read back as they were written, cut short they are Truncated, and a reader moves on by what it took.
-use mathlib.Core.Path.{_≡_, refl, sym, ap, _∙_, subst}
-use mathlib.Core.Bool.{Bool, true, false}
+use mathlib.Core.Path.{_≡_, refl, sym, ap, _∙_}
+use mathlib.Core.Bool.{true}
 use mathlib.Core.List.{List, [], _∷_, _++_}
-use mathlib.Core.Option.{Option, none}
+use mathlib.Core.Option.{none}
 use Prim.Native.Nat.{ℕ, zero, suc, _+_, _*_, _^_, _/_, _%_, _≤_, _<_}
 use native.Mathlib.Omega.{arith}
-use native.Mathlib.Nat.{div-add-mod', add-assoc, add-zero, pow-suc}
-use lib.ListN.{length, take, drop, getD, length-append, length-drop}
-use lib.Seq.{drop-cons, length-take-le, take-suc, getD-drop}
-use lib.Dec.{leb, ltb, eqb}
+use native.Mathlib.Nat.{pow-suc}
+use lib.ListN.{length, take, drop, getD, length-drop}
+use lib.Seq.{drop-cons, take-suc, getD-drop}
+use lib.Dec.{leb}
 use Rattle.utf8.specs.Utf8.{utf8}
-use Rattle.types.specs.Answer.{Answer, given, refused, truncated, shortStrTooLong, notUtf8, andThen, need}
+use Rattle.types.specs.Answer.{given, refused, truncated, shortStrTooLong, notUtf8}
 use Rattle.types.specs.Octets.{numberAt, uintAt, octets}
 use Rattle.types.specs.Judgement.{test}
 use Rattle.types.specs.Strings.{octetsOf, spanAt, longStrAt, shortStrAt, shortStr, longStr, judgeShortStr}
 use Rattle.types.specs.declared.Span.{Span}
 use Rattle.types.proofs.Tests.{leb-yes, leb-no, yes-leb}
 use Rattle.types.proofs.NumberLaws.{Octets, length-octets}
-use Rattle.types.proofs.Standing.{Stands, Cut, stands-left, stands-right, stands-split, cut-split}
+use Rattle.types.proofs.Standing.{Stands, Cut, stands-left, stands-right, cut-split}
 use Rattle.types.proofs.Chain.{then-go, need-given, given-next, given-value, test-none}
 
 take-last : (k : ℕ) (s : List ℕ) (p : ℕ) → p + k < length s → take (suc k) (drop p s) ≡ take k (drop p s) ++ (getD s (p + k) 0 ∷ [])

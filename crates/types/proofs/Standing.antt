@@ -1,11 +1,10 @@
 -- What stands where: parts of joined octets.
-use mathlib.Core.Path.{_≡_, refl, sym, ap, _∙_, subst}
-use mathlib.Core.Bool.{Bool, true, false, not}
+use mathlib.Core.Path.{_≡_, refl, sym, ap, _∙_}
 use mathlib.Core.List.{List, [], _∷_, _++_, append-assoc, append-nil, IsPrefix}
-use Prim.Native.Nat.{ℕ, zero, suc, _+_, _-_, _≤_, _<_}
+use Prim.Native.Nat.{ℕ, _+_, _-_, _≤_, _<_}
 use native.Mathlib.Omega.{arith}
-use lib.ListN.{length, take, drop, length-append, length-take, length-drop, take-append-drop}
-use lib.Seq.{take-append-seam, drop-append-seam, take-append-le, drop-append-le, take-all, take-at, drop-at, drop-drop, take-take, take-append-add, drop-append-add, take-length, take-add, length-take-le}
+use lib.ListN.{length, take, drop, length-append, length-drop, take-append-drop}
+use lib.Seq.{take-append-seam, drop-append-seam, take-append-le, drop-append-le, drop-at, drop-drop, take-take, take-length, take-add, length-take-le}
 use lib.Dec.{leb}
 use Rattle.types.proofs.Tests.{decide, yes-leb, no-leb}
 

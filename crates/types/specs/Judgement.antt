@@ -1,5 +1,5 @@
 -- A writer's judgement: none, or the first refusal.
-use mathlib.Core.Bool.{Bool, true, false, cond}
+use mathlib.Core.Bool.{Bool, cond}
 use mathlib.Core.Option.{Option, none, some}
 use Rattle.types.specs.Answer.{Refusal}
 

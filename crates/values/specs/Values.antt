@@ -1,7 +1,7 @@
 -- Leaf values and their words on the tape: document 01, "types.rs: tables and the tape", letters by the RabbitMQ errata.
 -- Signed numbers are two's complement at their own width, floats their bits, unused words 0.
 use Prim.Native.Nat.{ℕ, _^_}
-use mathlib.Core.Bool.{Bool, true, false, cond}
+use mathlib.Core.Bool.{Bool, cond}
 use mathlib.Core.Option.{Option, none, some}
 use mathlib.Core.List.{List, [], _∷_}
 use lib.Dec.{ltb, eqb}

@@ -1,6 +1,6 @@
 -- What a writer puts, and the three ways out of it: refused, no space, written.
 use mathlib.Core.Path.{_≡_, refl, sym, ap, _∙_}
-use mathlib.Core.Bool.{Bool, true, false}
+use mathlib.Core.Bool.{true, false}
 use mathlib.Core.List.{List, [], _∷_, _++_}
 use mathlib.Core.Option.{Option, none, some}
 use Prim.Native.Nat.{ℕ, suc, _+_, _-_, _/_, _%_, _≤_, _<_}
@@ -10,7 +10,7 @@ use lib.Seq.{paste, take-length}
 use Rattle.utf8.specs.Utf8.{utf8}
 use Rattle.types.specs.Answer.{Refusal, given, refused, shortStrTooLong, notUtf8, tooLong, noSpace}
 use Rattle.types.specs.Octets.{octets}
-use Rattle.types.specs.Strings.{shortStr, longStr, judgeShortStr, judgeLength}
+use Rattle.types.specs.Strings.{shortStr, longStr}
 use Rattle.types.specs.Memory.{splice, Outcome, outcome}
 use Rattle.writers.specs.Writers.{writeAt, writeUint, writeShortStr, writeLongStr}
 use Rattle.types.proofs.Tests.{leb-yes, leb-no}

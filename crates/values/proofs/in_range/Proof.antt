@@ -1,5 +1,4 @@
 -- `values::in_range` meets its contract. Assumes nothing.
-use mathlib.Core.Path.{_≡_, sym}
 use borrow.Author.Needs.{needs}
 use borrow.Author.Tests.{lt-ltb, le-ltb}
 use Rattle.values.proofs.in_range.Statement.{statement}

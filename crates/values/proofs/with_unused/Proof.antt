@@ -1,5 +1,4 @@
 -- `values::with_unused` meets its contract. Assumes nothing.
-use mathlib.Core.Path.{_≡_, sym}
 use borrow.Author.Tests.{eq-eqb, ne-eqb}
 use Rattle.values.proofs.with_unused.Statement.{statement}
 use Rattle.values.proofs.with_unused.Tie as tie

@@ -1,5 +1,5 @@
 -- `types::Cursor::f64` meets its contract. Assumes nothing.
-use mathlib.Core.Path.{_≡_, sym, ap, _∙_}
+use mathlib.Core.Path.{sym, ap, _∙_}
 use borrow.Author.Needs.{needs}
 use lib.Ieee.{binary64}
 use Rattle.types.specs.AnswerOf.{answerOfU64}

@@ -1,5 +1,5 @@
 -- `types::numbers::number_of` meets its contract. The invariant: the number of the first i octets, below 256 ^ i. Assumes nothing.
-use mathlib.Core.Path.{_≡_, refl, sym, ap, _∙_}
+use mathlib.Core.Path.{_≡_, refl}
 use Prim.Native.Nat.{_≤_, _<_, _-_, _+_, _^_, _*_}
 use native.Mathlib.Omega.{arith}
 use lib.ListN.{getD}
