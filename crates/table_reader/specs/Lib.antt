@@ -1,0 +1,4 @@
+-- The specification of the readers of field tables.
+pub mod Counting
+pub mod AnswerOf
+pub mod Filling
