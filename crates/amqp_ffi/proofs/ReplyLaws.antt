@@ -9,7 +9,7 @@ use Rattle.types.specs.Memory.{Outcome, outcome}
 use Rattle.types.specs.declared.Numbered.{Numbered}
 use Rattle.types.specs.declared.WireError.{WireError}
 use Rattle.types.specs.declared.WireError.the-variants.{Truncated, ShortStrTooLong, UnsupportedFieldType, NotUtf8, BadTape, UnknownMethod, NotWritten, TooDeep, TooLong, TapeFull, NoSpace}
-use Rattle.amqp_ffi.specs.Reply.{Reply, reply, refusalReply, replyOf, nothing, WriterReply, writerReplyOf}
+use Rattle.amqp_ffi.specs.Reply.{Reply, reply, refusalReply, replyOf, replyWithOf}
 
 abbrev bare : Numbered → Reply
 bare n = reply (n .number) (0 ∷ 0 ∷ 0 ∷ 0 ∷ [])
@@ -45,5 +45,7 @@ no-values TooLong q z = ap bare q
 no-values TapeFull q z = ap bare q
 no-values NoSpace q z = ap bare q
 
-pub written : {p : Reply} {a : Answer Unit} {out : List ℕ} {o : Outcome Unit} → p ≡ replyOf nothing a → outcome a out ≡ o → record { answer = p; out = out } ≡ writerReplyOf o
-written {p} {a} {out} e w = ap (λ (q : Reply). record { answer = q; out = out }) e ∙ ap writerReplyOf w
+-- the reply with the lent memory, from the reply and the outcome
+pub with-memory : {A : Type 0} (f : A → List ℕ) {p : Reply} {a : Answer A} {memory : List ℕ} {o : Outcome A} → p ≡ replyOf f a → outcome a memory ≡ o
+    → record { answer = p; memory = memory } ≡ replyWithOf f o
+with-memory {A} f {p} {a} {memory} e w = ap (λ (q : Reply). record { answer = q; memory = memory }) e ∙ ap (replyWithOf f) w

@@ -6,6 +6,7 @@ use lib.ListN.{take}
 use Rattle.types.specs.Answer.{Refusal, Answer, given, refused}
 use Rattle.types.specs.Memory.{Outcome, outcome}
 use Rattle.types.specs.declared.Span.{Span}
+use Rattle.tables.specs.Tape.{WithCount}
 
 pub record Reply : Type 0 where
   pub code : ℕ
@@ -37,13 +38,17 @@ span v = v .start ∷ v .len ∷ []
 abbrev pub nothing : Unit {0} → List ℕ
 nothing u = []
 
--- a writer leaves the output too
-pub record WriterReply : Type 0 where
+-- the words of some tape records: how many they are
+abbrev pub records : WithCount Unit → List ℕ
+records w = w .count ∷ []
+
+-- a writer leaves its output too, and a reader of tables its tape
+pub record ReplyWith : Type 0 where
   pub answer : Reply
-  pub out : List ℕ
+  pub memory : List ℕ
 
-abbrev pub writerReply : ℕ → List ℕ → List ℕ → WriterReply
-writerReply code words out = record { answer = reply code words; out = out }
+abbrev pub replyWith : ℕ → List ℕ → List ℕ → ReplyWith
+replyWith code words memory = record { answer = reply code words; memory = memory }
 
-abbrev pub writerReplyOf : Outcome Unit → WriterReply
-writerReplyOf (outcome a out) = record { answer = replyOf nothing a; out = out }
+abbrev pub replyWithOf : {A : Type 0} → (A → List ℕ) → Outcome A → ReplyWith
+replyWithOf f (outcome a memory) = record { answer = replyOf f a; memory = memory }

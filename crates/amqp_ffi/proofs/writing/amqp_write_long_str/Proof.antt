@@ -1,5 +1,6 @@
 -- `amqp_ffi::writing::amqp_write_long_str` meets its contract. Assumes nothing.
-use Rattle.amqp_ffi.proofs.ReplyLaws.{written}
+use Rattle.amqp_ffi.specs.Reply.{nothing}
+use Rattle.amqp_ffi.proofs.ReplyLaws.{with-memory}
 use borrow.Author.Needs.{needs}
 use Rattle.amqp_ffi.proofs.writing.amqp_write_long_str.Statement.{statement}
 use Rattle.amqp_ffi.proofs.writing.amqp_write_long_str.Tie as tie
@@ -14,7 +15,7 @@ same-length : tie.Need-same-length
 same-length c = search needs
 
 returns : tie.Need-returns
-returns c = written (c .reply-written .ensures) (c .before .before .before .write-long-str .ensures)
+returns c = with-memory nothing (c .reply-written .ensures) (c .before .before .before .write-long-str .ensures)
 
 pub amqp-write-long-str-spec : {M : Type 1} → statement M
 amqp-write-long-str-spec =

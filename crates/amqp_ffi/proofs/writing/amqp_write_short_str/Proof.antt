@@ -1,5 +1,6 @@
 -- `amqp_ffi::writing::amqp_write_short_str` meets its contract. Assumes nothing.
-use Rattle.amqp_ffi.proofs.ReplyLaws.{written}
+use Rattle.amqp_ffi.specs.Reply.{nothing}
+use Rattle.amqp_ffi.proofs.ReplyLaws.{with-memory}
 use borrow.Author.Needs.{needs}
 use Rattle.amqp_ffi.proofs.writing.amqp_write_short_str.Statement.{statement}
 use Rattle.amqp_ffi.proofs.writing.amqp_write_short_str.Tie as tie
@@ -14,7 +15,7 @@ same-length : tie.Need-same-length
 same-length c = search needs
 
 returns : tie.Need-returns
-returns c = written (c .reply-written .ensures) (c .before .before .before .write-short-str .ensures)
+returns c = with-memory nothing (c .reply-written .ensures) (c .before .before .before .write-short-str .ensures)
 
 pub amqp-write-short-str-spec : {M : Type 1} → statement M
 amqp-write-short-str-spec =
