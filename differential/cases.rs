@@ -4,6 +4,7 @@
 //! the same cases for the same words on every machine. Kinds in which SEED and COUNT say nothing:
 //!   sheet     the bench sheet of document 01 and its neighbours
 //!   edges     least, largest and odd values, lengths at their limits, well-formed inputs cut short
+//!   recorded  tables that clients have sent, of recorded.txt
 //!   short     edges, every input of 0 to 2 octets of each reader, every value letter with 0 to 10
 //!   commands  every command with every set of flags, numbers 0 and largest, strings of 0, 3, 255
 //!             and 256 octets
@@ -16,13 +17,14 @@
 //!   random    random octets for readers
 //!   mixed     a third of each
 mod inputs;
+mod tables;
 
 use amqp_rust::frame::{Frame, FrameType};
 use amqp_rust::line::{self, push_octets};
 use amqp_rust::tape::Table;
-use amqp_rust::types::FieldValue;
 use inputs::{BOUNDARY_CHARACTERS, COMMANDS, LETTERS, Rng};
-use inputs::{big_endian, edge_numbers, long_string, number_width, short_string, table_octets};
+use inputs::{big_endian, edge_numbers, long_string, nested, number_width, short_string};
+use inputs::{likely_table, likely_value, table_octets};
 use std::io::{BufWriter, StdoutLock, Write, stdout};
 use std::process::exit;
 
@@ -68,6 +70,7 @@ fn print_kind(cases: &mut Cases, kind: &str, seed: u64, count: u64) {
     match kind {
         "sheet" => sheet(cases),
         "edges" => edges(cases),
+        "recorded" => tables::recorded(cases),
         "short" => short(cases),
         "commands" => commands(cases),
         "utf8" => utf8(cases),
@@ -202,8 +205,11 @@ fn random(r: &mut Rng, operation: u8) -> Vec<Vec<u8>> {
     let lengths = [0, 1, 2, 3, 4, 5, 6, 7, 8, 9, 11, 12, 13, 14, 15, 20];
     let length = r.pick(&lengths) + r.place(3);
     let mut octets: Vec<u8> = (0..length).map(|_| likely_octet(r)).collect();
-    if operation == 0x06 {
-        likely_frame(r, &mut octets);
+    match operation {
+        0x01 => likely_table(r, &mut octets),
+        0x02 => likely_value(r, &mut octets),
+        0x06 => likely_frame(r, &mut octets),
+        _ => {}
     }
     vec![octets]
 }
@@ -250,18 +256,9 @@ fn sheet(cases: &mut Cases) {
     cases.case(0x30, &[&[0, 10], &[0, 11], b"a", b"b\0c"]);
     cases.case(0x30, &[&[0, 10], &[0, 11], b"a\0b", b"c"]);
     for depth in 14..=16 {
-        cases.case(0x01, &[&nested_tables(depth)]);
+        cases.case(0x01, &[&table_octets(&nested(depth, "F", Table::new()))]);
     }
     cases.case(0x29, &[]);
-}
-
-/// The octets of `depth` tables one in another inside the outermost one.
-fn nested_tables(depth: u32) -> Vec<u8> {
-    let mut table = Table::new();
-    for _ in 0..depth {
-        table = vec![("n".into(), FieldValue::Table(table))];
-    }
-    table_octets(&table)
 }
 
 // Short inputs and edges.
@@ -298,6 +295,7 @@ fn edges(cases: &mut Cases) {
             _ => prefixes(cases, operation),
         }
     }
+    tables::edges(cases);
     frame_edges(cases);
     for flags in 0..=255u8 {
         let flags: Vec<u8> = (0..8).map(|place| flags >> place & 1).collect();
@@ -510,7 +508,7 @@ fn long(cases: &mut Cases) {
         long_long_string(cases, &octets);
         long_body(cases, &octets);
     }
-    long_table(cases, &mut r);
+    tables::long(cases, &mut r);
 }
 
 /// A text read with the length 255, which may cut it; and, where it fits, with its own length:
@@ -541,10 +539,4 @@ fn long_body(cases: &mut Cases, octets: &[u8]) {
     cases.case(0x06, &[&whole]);
     cases.case(0x06, &[&whole[..whole.len() - 1]]);
     cases.case_of(0x32, &inputs::frame_fields(&frame));
-}
-
-fn long_table(cases: &mut Cases, r: &mut Rng) {
-    let table = inputs::flat_table(r, 1000);
-    cases.case(0x01, &[&table_octets(&table)]);
-    cases.case_of(0x33, &inputs::table_fields(&table));
 }

@@ -49,8 +49,10 @@ pub fn reader_input(r: &mut Rng, operation: u8) -> Vec<u8> {
         return number(r, width);
     }
     match operation {
-        0x01 => table_octets(&table(r)),
-        0x02 => value_octets(&lone_value(r)),
+        0x01 if r.one_in(4) => loose_table(r),
+        0x01 => table_octets(&table_to_read(r)),
+        0x02 if r.one_in(4) => loose_value(r),
+        0x02 => value_octets(&value_to_read(r)),
         0x03 => short_string(text_up_to(r, 255).as_bytes()),
         // What skip_field_table skips need not be a table.
         0x05 if r.one_in(2) => table_octets(&table(r)),
@@ -324,17 +326,107 @@ fn table(r: &mut Rng) -> Table {
     entries(r, 1, &mut budget)
 }
 
-/// Tables and arrays one in another, `depth` of them.
+/// Tables and arrays one in another, `depth` of them, now and then with a leaf beside one.
 fn chain(r: &mut Rng, depth: u64) -> Table {
     let mut table = Table::new();
     for _ in 0..depth {
-        let outer = match r.one_in(2) {
-            true => FieldValue::Table(table),
-            false => FieldValue::Array(table.into_iter().map(|(_, value)| value).collect()),
-        };
-        table = vec![("c".into(), outer)];
+        if r.one_in(4) {
+            let place = r.place(table.len() + 1);
+            table.insert(place, (name(r), value(r, 1, &mut 0)));
+        }
+        let kind = r.pick(&["F", "A"]);
+        table = nested(1, kind, table);
     }
     table
+}
+
+/// A table in `depth` others, tables (F) and arrays (A) by the letters of `kinds` in turn.
+pub fn nested(depth: u64, kinds: &str, table: Table) -> Table {
+    let kinds = kinds.chars().cycle().take(depth as usize);
+    kinds.fold(table, |table, kind| {
+        let outer = match kind {
+            'F' => FieldValue::Table(table),
+            _ => FieldValue::Array(table.into_iter().map(|(_, value)| value).collect()),
+        };
+        vec![("c".into(), outer)]
+    })
+}
+
+/// A table, now and then too deep for document 01 by one or two.
+fn table_to_read(r: &mut Rng) -> Table {
+    if r.one_in(12) {
+        let depth = u64::from(DEEPEST) - 2 + r.below(5);
+        return chain(r, depth);
+    }
+    table(r)
+}
+
+fn value_to_read(r: &mut Rng) -> FieldValue {
+    if r.one_in(12) {
+        let depth = u64::from(DEEPEST) - 2 + r.below(5);
+        let (_, value) = chain(r, depth).remove(0);
+        return value;
+    }
+    lone_value(r)
+}
+
+/// A table on the wire in which some declared lengths are too small.
+fn loose_table(r: &mut Rng) -> Vec<u8> {
+    let table = table(r);
+    loose_entries(r, &table)
+}
+
+fn loose_value(r: &mut Rng) -> Vec<u8> {
+    let value = lone_value(r);
+    loose(r, &value)
+}
+
+fn loose_entries(r: &mut Rng, table: &[(String, FieldValue)]) -> Vec<u8> {
+    let mut body = Vec::new();
+    for (name, value) in table {
+        body.extend(short_string(name.as_bytes()));
+        body.extend(loose(r, value));
+    }
+    with_loose_length(r, &body)
+}
+
+fn loose(r: &mut Rng, value: &FieldValue) -> Vec<u8> {
+    match value {
+        FieldValue::Table(entries) => [vec![b'F'], loose_entries(r, entries)].concat(),
+        FieldValue::Array(items) => {
+            let body: Vec<u8> = items.iter().flat_map(|item| loose(r, item)).collect();
+            [vec![b'A'], with_loose_length(r, &body)].concat()
+        }
+        _ => value_octets(value),
+    }
+}
+
+/// Octets behind their number, or behind a smaller one.
+fn with_loose_length(r: &mut Rng, body: &[u8]) -> Vec<u8> {
+    let less = r.pick(&[0, 0, 0, 0, 1, 2, 3, 9]);
+    let length = body.len().saturating_sub(less) as u32;
+    [&length.to_be_bytes(), body].concat()
+}
+
+/// Makes octets begin as a table whose length is a little less or more than what is left.
+pub fn likely_table(r: &mut Rng, octets: &mut [u8]) {
+    let Some(left) = octets.len().checked_sub(4) else { return };
+    let length = (left + 1).saturating_sub(r.place(5)) as u32;
+    octets[..4].copy_from_slice(&length.to_be_bytes());
+    // A short name, so that a letter is reached.
+    if let Some(name) = octets.get_mut(4) {
+        *name = r.below(3) as u8;
+    }
+}
+
+/// Makes octets begin with a letter.
+pub fn likely_value(r: &mut Rng, octets: &mut [u8]) {
+    if let Some(letter) = octets.first_mut() {
+        *letter = r.pick(LETTERS);
+    }
+    if let (Some(b'F' | b'A'), true) = (octets.first(), octets.len() > 4) {
+        likely_table(r, &mut octets[1..]);
+    }
 }
 
 /// A table, now and then with a name that is too long.
@@ -359,7 +451,7 @@ pub fn table_octets(table: &[(String, FieldValue)]) -> Vec<u8> {
     w.into_bytes()
 }
 
-fn value_octets(value: &FieldValue) -> Vec<u8> {
+pub fn value_octets(value: &FieldValue) -> Vec<u8> {
     let mut w = Writer::new();
     w.field_value(value).expect("names of at most 255 octets");
     w.into_bytes()

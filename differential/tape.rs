@@ -181,7 +181,7 @@ impl Loader<'_> {
 }
 
 /// The value of a letter that has no octets and nothing beneath.
-fn number(letter: u8, first: u64, second: u64) -> Option<FieldValue> {
+pub fn number(letter: u8, first: u64, second: u64) -> Option<FieldValue> {
     Some(match letter {
         b't' => FieldValue::Bool(first != 0),
         b'b' => FieldValue::I8(first as i8),

@@ -1,13 +1,15 @@
 // The operations that read one field from its start: 03 short_str, 04 long_str, 05 skip_field_table, 08 to 0b u8 to u64,
 // 0c to 0f i8 to i64, 10 f32, 11 f64.
-use crate::line;
-use crate::print;
+ghost use Prim.Native.Nat.{_≤_};
+ghost use lib.ListN.{length};
 use bits::f32_bits;
 use bits::f64_bits;
 use bits::unsigned8;
 use bits::unsigned16;
 use bits::unsigned32;
 use bits::unsigned64;
+use lines::line;
+use lines::print;
 use types::Cursor;
 use types::ReadF32;
 use types::ReadF64;
@@ -166,7 +168,9 @@ fn read(op: u8, s: &[u8]) -> Reading {
     }
 }
 
-pub(crate) fn answer(op: u8, octets: &[u8], marks: &[usize], out: &mut [u8], at: usize) -> usize {
+pub(crate) fn answer(op: u8, octets: &[u8], marks: &[usize], out: &mut [u8], at: usize) -> usize
+    ensures { λ r. ⌜ r ≤ length (now (out .entry)) ⌝ }
+{
     if line::fields(marks) != 2 {
         return print::put(out, at, b'?');
     }
@@ -178,7 +182,7 @@ pub(crate) fn answer(op: u8, octets: &[u8], marks: &[usize], out: &mut [u8], at:
         }
         Reading::Octets(v, next) => {
             let end = print::given(out, at, next.at);
-            print::and_span(out, end, s, v)
+            print::and_span(out, end, b' ', s, v)
         }
         Reading::Nothing(next) => print::given(out, at, next.at),
         Reading::Refused(e) => print::refused(out, at, e),

@@ -1,6 +1,9 @@
-// Answers cases, one to a line of standard input, by a line each on standard output: the crate `cases` has their form.
+// Answers cases, one to a line of standard input, by a line each on standard output: the crate `lines` has their form.
+mod answer;
+
 use libc::STDERR_FILENO;
 use libc::STDIN_FILENO;
+use lines::print;
 
 // How many octets a line has that its buffer does not hold.
 const TOO_LONG: usize = usize::MAX;
@@ -24,11 +27,18 @@ fn keep(line: &mut [u8], n: usize, b: u8) -> usize {
 }
 
 // Takes one octet of the input; the newline has its line answered.
-fn take(b: u8, p: Progress, line: &mut [u8], lent: &mut [u8], out: &mut [u8]) -> Progress {
+fn take(
+    b: u8,
+    p: Progress,
+    line: &mut [u8],
+    lent: &mut [u8],
+    tape: &mut [u64],
+    out: &mut [u8],
+) -> Progress {
     if b == b'\n' {
         Progress {
             held: 0,
-            pending: cases::answer(line, p.held, lent, out, p.pending),
+            pending: answer::answer(line, p.held, lent, tape, out, p.pending),
             ended: false,
         }
     } else {
@@ -46,19 +56,26 @@ fn take_part(
     p: Progress,
     line: &mut [u8],
     lent: &mut [u8],
+    tape: &mut [u64],
     out: &mut [u8],
 ) -> Progress {
     let mut now = p;
     let mut i = 0;
     while i < part.len() {
-        now = take(part[i], now, line, lent, out);
+        now = take(part[i], now, line, lent, tape, out);
         i += 1;
     }
     now
 }
 
 // Reads once. Where that fails, what was read of a line is no line.
-fn read_part(p: Progress, line: &mut [u8], lent: &mut [u8], out: &mut [u8]) -> Progress {
+fn read_part(
+    p: Progress,
+    line: &mut [u8],
+    lent: &mut [u8],
+    tape: &mut [u64],
+    out: &mut [u8],
+) -> Progress {
     let mut part = io::large_buffer();
     let got = libc::read(STDIN_FILENO, &mut part);
     if got < 0 {
@@ -77,11 +94,11 @@ fn read_part(p: Progress, line: &mut [u8], lent: &mut [u8], out: &mut [u8]) -> P
         };
     }
     let n = io::count(got, &part);
-    take_part(&part[0..n], p, line, lent, out)
+    take_part(&part[0..n], p, line, lent, tape, out)
 }
 
 // Reads to the end of the input, in no more than `turns` reads: no contract says that the input ends.
-fn read_all(line: &mut [u8], lent: &mut [u8], out: &mut [u8]) -> Progress {
+fn read_all(line: &mut [u8], lent: &mut [u8], tape: &mut [u64], out: &mut [u8]) -> Progress {
     let mut p = Progress {
         held: 0,
         pending: 0,
@@ -89,27 +106,28 @@ fn read_all(line: &mut [u8], lent: &mut [u8], out: &mut [u8]) -> Progress {
     };
     let mut turns = u64::MAX;
     while turns > 0 && !p.ended {
-        p = read_part(p, line, lent, out);
+        p = read_part(p, line, lent, tape, out);
         turns -= 1;
     }
     p
 }
 
 // The last line may lack its newline.
-fn replay(line: &mut [u8], lent: &mut [u8], out: &mut [u8]) {
-    let p = read_all(line, lent, out);
+fn replay(line: &mut [u8], lent: &mut [u8], tape: &mut [u64], out: &mut [u8]) {
+    let p = read_all(line, lent, tape, out);
     if p.held == 0 {
-        cases::flush(out, p.pending);
+        print::flush(out, p.pending);
         return;
     }
-    let end = cases::answer(line, p.held, lent, out, p.pending);
-    cases::flush(out, end);
+    let end = answer::answer(line, p.held, lent, tape, out, p.pending);
+    print::flush(out, end);
 }
 
 // Buffers are made once: one that is made for each case would be cleared for each case.
 fn main() {
     let mut line = [0u8; 400_000];
     let mut lent = [0u8; 262_144];
+    let mut tape = [0u64; 393_225];
     let mut out = [0u8; 65_536];
-    replay(&mut line, &mut lent, &mut out);
+    replay(&mut line, &mut lent, &mut tape, &mut out);
 }

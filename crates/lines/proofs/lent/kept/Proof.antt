@@ -1,4 +1,4 @@
--- `cases::lent::kept` meets its contract. Assumes nothing.
+-- `lines::lent::kept` meets its contract. Assumes nothing.
 use mathlib.Core.Path.{_≡_, _∙_}
 use mathlib.Core.Bool.{false≢true}
 use Prim.Native.Nat.{ℕ, _+_, _-_, _%_, _≤_, _<_}
@@ -6,8 +6,8 @@ use native.Mathlib.Omega.{arith}
 use borrow.Author.Count.{below-more}
 use lib.ListN.{length, getD}
 use borrow.Author.Needs.{needs}
-use Rattle.cases.proofs.lent.kept.Statement.{statement}
-use Rattle.cases.proofs.lent.kept.Tie as tie
+use Rattle.lines.proofs.lent.kept.Statement.{statement}
+use Rattle.lines.proofs.lent.kept.Tie as tie
 
 abbrev Inv-loop : tie.InvT-loop
 Inv-loop lent from i₀ i = (k : ℕ) → k < i → from ≤ k → getD lent k 0 ≡ 165 + k % 64

@@ -1,4 +1,4 @@
--- `cases::lent::fill` meets its contract. Assumes nothing.
+-- `lines::lent::fill` meets its contract. Assumes nothing.
 use mathlib.Core.Path.{_≡_, _∙_}
 use mathlib.Core.List.{List}
 use Prim.Native.Nat.{ℕ, _+_, _-_, _%_, _<_}
@@ -8,8 +8,8 @@ use borrow.Author.Count.{below-none, below-more}
 use lib.ListN.{length, getD, set}
 use lib.Seq.{getD-set-same, getD-set-other}
 use borrow.Author.Needs.{needs}
-use Rattle.cases.proofs.lent.fill.Statement.{statement}
-use Rattle.cases.proofs.lent.fill.Tie as tie
+use Rattle.lines.proofs.lent.fill.Statement.{statement}
+use Rattle.lines.proofs.lent.fill.Tie as tie
 
 abbrev Inv-loop : tie.InvT-loop
 Inv-loop lent₀ i₀ lent i = (length lent ≡ length lent₀) × ((k : ℕ) → k < i → getD lent k 0 ≡ 165 + k % 64)

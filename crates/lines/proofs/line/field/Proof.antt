@@ -1,9 +1,9 @@
--- `cases::line::field` meets its contract. Assumes nothing.
+-- `lines::line::field` meets its contract. Assumes nothing.
 use lib.ListN.{length-take, length-drop}
 use native.Mathlib.Omega.{arith}
 use borrow.Author.Needs.{needs}
-use Rattle.cases.proofs.line.field.Statement.{statement}
-use Rattle.cases.proofs.line.field.Tie as tie
+use Rattle.lines.proofs.line.field.Statement.{statement}
+use Rattle.lines.proofs.line.field.Tie as tie
 
 pub field-spec : {M : Type 1} → statement M
 field-spec =

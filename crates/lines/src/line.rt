@@ -2,8 +2,10 @@
 // nothing is overwritten that is still to be read. Field k is what lies from mark k to mark k + 1: a case of n fields has
 // n + 1 marks. So fields are counted from any other one by leaving marks out.
 ghost use mathlib.Core.Path.{_≡_};
-ghost use Prim.Native.Nat.{_-_, _≤_};
+ghost use Prim.Native.Nat.{_-_, _≤_, _<_};
 ghost use lib.ListN.{length};
+use types::Cursor;
+use types::ReadU64;
 
 // The octets up to the end of a field; where another field follows, its place in the line too.
 enum Decoded {
@@ -93,7 +95,7 @@ fn mark_fields(line: &mut [u8], marks: &mut [usize]) -> usize
 }
 
 // Splits the line that the first `end` octets of `line` are; one that is longer than `line` is malformed.
-pub(crate) fn split(line: &mut [u8], end: usize, marks: &mut [usize]) -> usize
+pub fn split(line: &mut [u8], end: usize, marks: &mut [usize]) -> usize
     ensures { λ r. ⌜ r ≤ length (now (marks .entry)) ⌝ }
 {
     if line.len() < end {
@@ -103,14 +105,14 @@ pub(crate) fn split(line: &mut [u8], end: usize, marks: &mut [usize]) -> usize
 }
 
 // How many fields there are.
-pub(crate) fn fields(marks: &[usize]) -> usize
+pub fn fields(marks: &[usize]) -> usize
     ensures { λ r. ⌜ r ≡ length (now (marks .entry)) - 1 ⌝ }
 {
     if marks.len() == 0 { 0 } else { marks.len() - 1 }
 }
 
 // Field k; no octets where there is no such field.
-pub(crate) fn field<'a>(octets: &'a [u8], marks: &[usize], k: usize) -> &'a [u8]
+pub fn field<'a>(octets: &'a [u8], marks: &[usize], k: usize) -> &'a [u8]
     ensures { λ r. ⌜ length (now r) ≤ length (now (octets .entry)) ⌝ }
 {
     if k < fields(marks) {
@@ -124,7 +126,23 @@ pub(crate) fn field<'a>(octets: &'a [u8], marks: &[usize], k: usize) -> &'a [u8]
 }
 
 // The one octet of the first field; 0, which is no operation, where it has not one.
-pub(crate) fn operation(octets: &[u8], marks: &[usize]) -> u8 {
+pub fn operation(octets: &[u8], marks: &[usize]) -> u8
+    ensures { λ r. ⌜ (length (now (octets .entry)) ≡ 0 → r ≡ 0) ⌝ }
+{
     let first = field(octets, marks, 0);
     if first.len() == 1 { first[0] } else { 0 }
+}
+
+// The number of eight octets that field k is; where it is none, the largest, which no memory has octets for.
+pub fn number(octets: &[u8], marks: &[usize], k: usize) -> usize
+    ensures { λ r. ⌜ (length (now (octets .entry)) < 8 → r ≡ 18446744073709551615) ⌝ }
+{
+    let s = field(octets, marks, k);
+    if s.len() != 8 {
+        return usize::MAX;
+    }
+    match (Cursor { at: 0 }).u64(s) {
+        ReadU64::Value(n, _) => n as usize,
+        ReadU64::Refused(_) => usize::MAX,
+    }
 }

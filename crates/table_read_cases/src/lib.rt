@@ -1,0 +1,164 @@
+// Cases of the readers of tables: 01 field_table, 02 field_value; 51, one of them over a tape of a given number of records. The
+// crate `lines` has their form.
+ghost use Prim.Native.Nat.{_≤_};
+ghost use lib.ListN.{length};
+
+mod record;
+
+use lines::lent;
+use lines::line;
+use lines::print;
+use table_reader::ReadRecords;
+use table_reader::read_field_table;
+use table_reader::read_field_value;
+use tables::tape::RECORD_WORDS;
+use types::Cursor;
+
+// One record in front is used.
+const USED: usize = 1;
+
+// Words in it, and three behind the last record, which are no record.
+const BESIDE: usize = 9;
+
+// The most records that 01 and 02 are lent: they have 393,225 words with those.
+const MOST: usize = 65_536;
+
+fn read(op: u8, s: &[u8], tape: &mut [u64]) -> ReadRecords {
+    match op {
+        0x01 => read_field_table(s, Cursor { at: 0 }, tape, USED),
+        _ => read_field_value(s, Cursor { at: 0 }, tape, USED),
+    }
+}
+
+// Record number k behind the used ones, by its contents or by its words.
+fn record_shown(
+    s: &[u8],
+    tape: &[u64],
+    k: usize,
+    by_words: bool,
+    out: &mut [u8],
+    at: usize,
+) -> usize
+    ensures { λ r. ⌜ r ≤ length (now (out .entry)) ⌝ }
+{
+    if tape.len() <= k {
+        return print::text(out, at, b" ?");
+    }
+    if by_words {
+        record::words(tape, USED + k, out, at)
+    } else {
+        record::contents(s, tape, USED + k, out, at)
+    }
+}
+
+// The number of records, then the records.
+fn records(s: &[u8], tape: &[u64], count: usize, by_words: bool, out: &mut [u8], at: usize) -> usize
+    ensures { λ r. ⌜ r ≤ length (now (out .entry)) ⌝ }
+{
+    let mut next = print::and_number(out, at, b' ', count as u64);
+    let mut k = 0;
+    while k < count {
+        next = record_shown(s, tape, k, by_words, out, next);
+        k += 1;
+    }
+    next
+}
+
+// Whether nothing is changed but `count` records behind the used ones.
+fn kept(tape: &[u64], count: usize) -> bool {
+    if tape.len() / RECORD_WORDS < USED {
+        return false;
+    }
+    if tape.len() / RECORD_WORDS - USED < count {
+        return false;
+    }
+    lent::kept_words(&tape[0..USED * RECORD_WORDS], 0)
+        && lent::kept_words(tape, (USED + count) * RECORD_WORDS)
+}
+
+fn judge(r: ReadRecords, s: &[u8], tape: &[u64], by_words: bool, out: &mut [u8], at: usize) -> usize
+    ensures { λ r. ⌜ r ≤ length (now (out .entry)) ⌝ }
+{
+    match r {
+        ReadRecords::Value(count, next) => {
+            if !kept(tape, count) {
+                return print::text(out, at, b"# changed");
+            }
+            let end = print::given(out, at, next.at);
+            records(s, tape, count, by_words, out, end)
+        }
+        ReadRecords::Refused(e) => {
+            if !kept(tape, 0) {
+                return print::text(out, at, b"# changed");
+            }
+            print::refused(out, at, e)
+        }
+    }
+}
+
+// How many words a tape of `all` words can lend for `room` free records; 0 where that is too many.
+fn words_for(room: usize, all: usize) -> usize
+    ensures { λ r. ⌜ r ≤ all ⌝ }
+{
+    if all < BESIDE {
+        return 0;
+    }
+    if (all - BESIDE) / RECORD_WORDS < room {
+        return 0;
+    }
+    room * RECORD_WORDS + BESIDE
+}
+
+// The reader is lent `room` free records.
+fn answer_lent(
+    op: u8,
+    octets: &[u8],
+    marks: &[usize],
+    room: usize,
+    by_words: bool,
+    tape: &mut [u64],
+    out: &mut [u8],
+    at: usize,
+) -> usize
+    ensures { λ r. ⌜ r ≤ length (now (out .entry)) ⌝ }
+{
+    let words = words_for(room, tape.len());
+    let s = line::field(octets, marks, 1);
+    if line::fields(marks) != 2 || words == 0 {
+        return print::put(out, at, b'?');
+    }
+    lent::fill_words(&mut tape[0..words]);
+    let r = read(op, s, &mut tape[0..words]);
+    judge(r, s, &tape[0..words], by_words, out, at)
+}
+
+// 51: a tape of `room` records, whose words are shown.
+pub fn answer_with_room(
+    op: u8,
+    octets: &[u8],
+    marks: &[usize],
+    room: usize,
+    tape: &mut [u64],
+    out: &mut [u8],
+    at: usize,
+) -> usize
+    ensures { λ r. ⌜ r ≤ length (now (out .entry)) ⌝ }
+{
+    answer_lent(op, octets, marks, room, true, tape, out, at)
+}
+
+// 01 and 02: a record takes an octet or more, so as many records as octets suffice.
+pub fn answer(
+    op: u8,
+    octets: &[u8],
+    marks: &[usize],
+    tape: &mut [u64],
+    out: &mut [u8],
+    at: usize,
+) -> usize
+    ensures { λ r. ⌜ r ≤ length (now (out .entry)) ⌝ }
+{
+    let len = line::field(octets, marks, 1).len();
+    let room = if len < MOST { len } else { MOST };
+    answer_lent(op, octets, marks, room, false, tape, out, at)
+}
