@@ -4,7 +4,7 @@ use std::hint::black_box;
 use std::time::{Duration, Instant};
 
 /// The port's answer: the next position, then the number, or the start and length of octets.
-type Words = [u64; 4];
+pub type Words = [u64; 4];
 
 // A slice is passed as a pointer and a length. What is returned is 0, or the number of a refusal.
 unsafe extern "C" {
@@ -34,15 +34,16 @@ const SAMPLES: usize = 500;
 const SAMPLE: Duration = Duration::from_micros(200);
 
 /// One side of a line. A turn gives the sum of its answers; `best` is in nanoseconds an operation.
-struct Side {
+pub struct Side {
     turn: Box<dyn FnMut() -> u64>,
+    operations: usize,
     turns: u32,
-    best: f64,
+    pub best: f64,
 }
 
 impl Side {
-    fn new(turn: impl FnMut() -> u64 + 'static) -> Self {
-        let mut side = Side { turn: Box::new(turn), turns: 0, best: f64::MAX };
+    pub fn new(operations: usize, turn: impl FnMut() -> u64 + 'static) -> Self {
+        let mut side = Side { turn: Box::new(turn), operations, turns: 0, best: f64::MAX };
         let start = Instant::now();
         while start.elapsed() < SAMPLE {
             black_box((side.turn)());
@@ -51,12 +52,12 @@ impl Side {
         side
     }
 
-    fn sample(&mut self) {
+    pub fn sample(&mut self) {
         let start = Instant::now();
         for _ in 0..self.turns {
             black_box((self.turn)());
         }
-        let operations = f64::from(self.turns) * TURN as f64;
+        let operations = f64::from(self.turns) * self.operations as f64;
         self.best = self.best.min(start.elapsed().as_nanos() as f64 / operations);
     }
 }
@@ -72,7 +73,7 @@ fn line(
     rust: impl FnMut() -> u64 + 'static,
     port: impl FnMut() -> u64 + 'static,
 ) -> Line {
-    let mut line = Line { what, rust: Side::new(rust), port: Side::new(port) };
+    let mut line = Line { what, rust: Side::new(TURN, rust), port: Side::new(TURN, port) };
     let (rust, port) = ((line.rust.turn)(), (line.port.turn)());
     assert_eq!(rust, port, "{}: the Rust and the port differ", line.what);
     line
@@ -261,4 +262,6 @@ pub fn run() {
         let (what, rust, port) = (line.what, line.rust.best, line.port.best);
         println!("| {what:<54} | {rust:>8.2} | {port:>8.2} | {:>9.2} |", rust / port);
     }
+    println!();
+    crate::tables::run(SAMPLES);
 }
