@@ -1,5 +1,6 @@
 -- `table_reader::judge::one_more` meets its contract. Assumes nothing.
 use mathlib.Core.Path.{sym, ap, subst}
+use native.Mathlib.Omega.{arith}
 use Rattle.table_reader.specs.Counting.{more}
 use Rattle.table_reader.specs.AnswerOf.{answerOfJudged, Roomy}
 use borrow.Author.Needs.{needs}
@@ -10,7 +11,7 @@ enum-known-r : tie.Need-enum-known-r
 enum-known-r c = search needs
 
 add-t6 : tie.Need-add-t6
-add-t6 c = record { fits = subst Roomy (c .before .r .given .1) (c .before .before .before .pre) }
+add-t6 c = record { fits = omega (arith, subst Roomy (c .before .r .given .1) (c .before .before .before .pre)) }
 
 enum-known-r-2 : tie.Need-enum-known-r-2
 enum-known-r-2 c = search needs

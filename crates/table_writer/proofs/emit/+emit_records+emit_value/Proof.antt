@@ -202,7 +202,7 @@ emit-value-emit-records-requires t c κs =
     (omega (arith, b .level, m), (omega arith, b .ready))
 
 emit-value-sub-write-u32 : (t : ℕ) → emit-value-lts.Need-sub-write-u32 (emit-value-calls t) (emit-value-at t) emit-value.Post
-emit-value-sub-write-u32 t c = body-count (value-body t (c .before .before .before .before .before .before)) (c .before .before .before .emit-records .ensures) .0
+emit-value-sub-write-u32 t c = omega (arith, body-count (value-body t (c .before .before .before .before .before .before)) (c .before .before .before .emit-records .ensures) .0)
 
 emit-value-cast-write-u32 : (t : ℕ) → emit-value-lts.Need-cast-write-u32 (emit-value-calls t) (emit-value-at t) emit-value.Post
 emit-value-cast-write-u32 t c = omega (arith, body-count (value-body t (c .before .before .before .before .before .before)) (c .before .before .before .emit-records .ensures) .1)
