@@ -4,25 +4,29 @@
 //! the same cases for the same words on every machine. Kinds in which SEED and COUNT say nothing:
 //!   sheet     the bench sheet of document 01 and its neighbours
 //!   edges     least, largest and odd values, lengths at their limits, well-formed inputs cut short
-//!   recorded  tables that clients have sent, of recorded.txt
+//!   recorded  tables, content headers and replies that were sent, of recorded.txt
 //!   short     edges, every input of 0 to 2 octets of each reader, every value letter with 0 to 10
 //!   commands  every command with every set of flags, numbers 0 and largest, strings of 0, 3, 255
-//!             and 256 octets
+//!             and 256 octets and texts of odd characters in every place
+//!   headers   content headers with every set of flags, written and read: whole, cut, damaged; each
+//!             property alone
+//!   replies   payloads for each reply reader: whole, cut, damaged; random octets
 //!   utf8      every text of 1 and 2 octets, those of 3 and 4 over the octets where RFC 3629 decides
 //!   utf8-3    every text of 3 octets
-//!   long      strings, bodies and tables around 255, 256, 65,535 and 65,536 octets
+//!   long      strings, bodies, logins and tables around 255, 256, 65,535 and 65,536 octets
 //! Kinds of COUNT random cases, each of an operation drawn from the list:
 //!   good      well-formed inputs of readers, arguments of writers
 //!   damaged   well-formed inputs of readers, cut, or with octets changed, removed or inserted
 //!   random    random octets for readers
 //!   mixed     a third of each
 mod inputs;
+mod methods;
 mod tables;
 
 use amqp_rust::frame::{Frame, FrameType};
 use amqp_rust::line::{self, push_octets};
 use amqp_rust::tape::Table;
-use inputs::{BOUNDARY_CHARACTERS, COMMANDS, LETTERS, Rng};
+use inputs::{BOUNDARY_CHARACTERS, LETTERS, Rng};
 use inputs::{big_endian, edge_numbers, long_string, nested, number_width, short_string};
 use inputs::{likely_table, likely_value, table_octets};
 use std::io::{BufWriter, StdoutLock, Write, stdout};
@@ -70,9 +74,11 @@ fn print_kind(cases: &mut Cases, kind: &str, seed: u64, count: u64) {
     match kind {
         "sheet" => sheet(cases),
         "edges" => edges(cases),
-        "recorded" => tables::recorded(cases),
+        "recorded" => recorded(cases),
         "short" => short(cases),
-        "commands" => commands(cases),
+        "commands" => methods::commands(cases),
+        "headers" => methods::headers(cases),
+        "replies" => methods::replies(cases),
         "utf8" => utf8(cases),
         "utf8-3" => utf8_3(cases),
         "long" => long(cases),
@@ -125,13 +131,16 @@ enum Drawing {
     Random,
 }
 
+/// The fields of a random case of an operation.
+type Draw = fn(&mut Rng, u8) -> Vec<Vec<u8>>;
+
 /// `count` cases, by each of the drawings in turn.
 fn drawn(cases: &mut Cases, seed: u64, count: u64, drawings: &[Drawing]) {
     let mut r = Rng(seed);
     let all = ballot(&cases.listed);
     let readers = ballot(&cases.listed_readers());
     for (drawing, _) in drawings.iter().cycle().zip(0..count) {
-        let (among, draw): (_, fn(&mut Rng, u8) -> Vec<Vec<u8>>) = match drawing {
+        let (among, draw): (_, Draw) = match drawing {
             Drawing::Good => (&all, good),
             Drawing::Damaged => (&readers, damaged),
             Drawing::Random => (&readers, random),
@@ -209,6 +218,7 @@ fn random(r: &mut Rng, operation: u8) -> Vec<Vec<u8>> {
         0x01 => likely_table(r, &mut octets),
         0x02 => likely_value(r, &mut octets),
         0x06 => likely_frame(r, &mut octets),
+        0x07 => methods::likely_header(r, &mut octets),
         _ => {}
     }
     vec![octets]
@@ -259,6 +269,24 @@ fn sheet(cases: &mut Cases) {
         cases.case(0x01, &[&table_octets(&nested(depth, "F", Table::new()))]);
     }
     cases.case(0x29, &[]);
+}
+
+// What was recorded.
+
+/// On a line the operation that reads it, and its octets.
+const RECORDED: &str = include_str!("recorded.txt");
+
+fn recorded(cases: &mut Cases) {
+    for line in RECORDED.lines().filter(|line| !line.is_empty() && !line.starts_with('#')) {
+        let fields = line::fields(line.as_bytes()).expect("recorded.txt: fields in hexadecimal");
+        let [operation, octets] = fields.as_slice() else { fail("recorded.txt: not two fields") };
+        match operation.as_slice() {
+            [0x01] => tables::recorded(cases, octets),
+            [0x07] => methods::recorded_header(cases, octets),
+            [operation @ 0x21..=0x27] => methods::recorded_reply(cases, *operation, octets),
+            _ => fail("recorded.txt: neither a table nor a content header nor a reply"),
+        }
+    }
 }
 
 // Short inputs and edges.
@@ -405,50 +433,6 @@ fn frame_edges(cases: &mut Cases) {
     }
 }
 
-// Commands.
-
-fn commands(cases: &mut Cases) {
-    for command in COMMANDS {
-        let (_, _, letters) = command;
-        for mask in 0..1 << letters.matches('b').count() {
-            for fill in [0, 0xff] {
-                command_case(cases, command, mask, fill, |_| 3);
-            }
-            for (place, _) in letters.match_indices(['s', 'p']) {
-                for length in [0, 255, 256] {
-                    let lengths = |other| if other == place { length } else { 3 };
-                    command_case(cases, command, mask, 0, lengths);
-                }
-            }
-        }
-    }
-}
-
-/// A command whose flags are the bits of `mask`, whose numbers have octets `fill`, and whose strings
-/// have the length given for their place.
-fn command_case(
-    cases: &mut Cases,
-    (class, method, letters): (u16, u16, &str),
-    mut mask: u8,
-    fill: u8,
-    length: impl Fn(usize) -> usize,
-) {
-    let mut flag = || {
-        let lowest = mask & 1;
-        mask >>= 1;
-        lowest
-    };
-    let argument = |(place, letter)| match letter {
-        'H' => vec![fill; 2],
-        'L' => vec![fill; 4],
-        'Q' => vec![fill; 8],
-        'b' => vec![flag()],
-        _ => vec![b'a' + place as u8; length(place)],
-    };
-    let arguments = letters.chars().enumerate().map(argument).collect();
-    cases.case_of(0x30, &inputs::command_fields(class, method, arguments));
-}
-
 // Texts.
 
 /// The octets next to which RFC 3629 decides otherwise.
@@ -509,6 +493,7 @@ fn long(cases: &mut Cases) {
         long_body(cases, &octets);
     }
     tables::long(cases, &mut r);
+    methods::long(cases, &mut r);
 }
 
 /// A text read with the length 255, which may cut it; and, where it fits, with its own length:

@@ -1,7 +1,7 @@
 //! Well-formed inputs of readers and arguments of writers, drawn at random with a weight on the
 //! limits; and the pieces of which `cases` makes others.
+use crate::methods;
 use amqp_rust::frame::{Frame, FrameType};
-use amqp_rust::method::{ContentProperties, content_header_with_props};
 use amqp_rust::tape::{Table, store_table};
 use amqp_rust::types::{FieldValue, Writer};
 
@@ -58,18 +58,21 @@ pub fn reader_input(r: &mut Rng, operation: u8) -> Vec<u8> {
         0x05 if r.one_in(2) => table_octets(&table(r)),
         0x04 | 0x05 => long_string(&long_content(r)),
         0x06 => frame(r).encode(),
-        0x07 => header_octets(&header(r, 255)),
-        _ => reply(r, operation),
+        0x07 => {
+            let flags = methods::flags(r);
+            methods::header(r, flags)
+        }
+        _ => methods::reply(r, operation),
     }
 }
 
 /// The fields of a case for a writer: arguments that the Rust can hold, so any refusal is 2.
 pub fn writer_arguments(r: &mut Rng, operation: u8) -> Vec<Vec<u8>> {
     match operation {
-        0x30 => command(r),
+        0x30 => methods::command(r),
         0x31 => {
-            let longest = if r.one_in(10) { 256 } else { 255 };
-            header_fields(&header(r, longest))
+            let flags = methods::flags(r);
+            methods::header_arguments(r, flags)
         }
         0x32 => frame_fields(&frame(r)),
         0x33 => table_fields(&table_to_write(r)),
@@ -168,7 +171,7 @@ const EDGES_64: &[u64] = &[
 ];
 
 /// A number of `width` octets, often an edge or small.
-fn number(r: &mut Rng, width: usize) -> Vec<u8> {
+pub fn number(r: &mut Rng, width: usize) -> Vec<u8> {
     let number = match r.below(6) {
         0 | 1 => r.pick(edge_numbers(width)),
         2 => r.below(16),
@@ -215,7 +218,7 @@ fn text(r: &mut Rng, length: usize) -> String {
     text
 }
 
-fn text_up_to(r: &mut Rng, most: usize) -> String {
+pub fn text_up_to(r: &mut Rng, most: usize) -> String {
     let length = length_up_to(r, most);
     text(r, length)
 }
@@ -430,7 +433,7 @@ pub fn likely_value(r: &mut Rng, octets: &mut [u8]) {
 }
 
 /// A table, now and then with a name that is too long.
-fn table_to_write(r: &mut Rng) -> Table {
+pub fn table_to_write(r: &mut Rng) -> Table {
     let mut table = table(r);
     if r.one_in(20) {
         let place = r.place(table.len() + 1);
@@ -473,141 +476,4 @@ fn frame(r: &mut Rng) -> Frame {
 pub fn frame_fields(frame: &Frame) -> Vec<Vec<u8>> {
     let channel = frame.channel.to_be_bytes().to_vec();
     vec![vec![frame.frame_type as u8], channel, frame.payload.clone()]
-}
-
-struct Header {
-    class: u16,
-    size: u64,
-    properties: ContentProperties,
-}
-
-/// A content header with strings of at most `longest` octets.
-fn header(r: &mut Rng, longest: usize) -> Header {
-    let flags = match r.below(4) {
-        0 => 0,
-        1 => 0xffff,
-        _ => r.next(),
-    };
-    let on = |flag: u32| flags >> flag & 1 == 1;
-    let string = |r: &mut Rng, flag| on(flag).then(|| text_up_to(r, longest));
-    let properties = ContentProperties {
-        content_type: string(r, 15),
-        content_encoding: string(r, 14),
-        headers: on(13).then(|| table(r)),
-        delivery_mode: on(12).then(|| r.octet()),
-        priority: on(11).then(|| r.octet()),
-        correlation_id: string(r, 10),
-        reply_to: string(r, 9),
-        expiration: string(r, 8),
-        message_id: string(r, 7),
-        timestamp: on(6).then(|| u64(r)),
-        type_: string(r, 5),
-        user_id: string(r, 4),
-        app_id: string(r, 3),
-    };
-    Header { class: u16(r), size: u64(r), properties }
-}
-
-fn header_octets(header: &Header) -> Vec<u8> {
-    content_header_with_props(header.class, header.size, &header.properties)
-        .expect("strings of at most 255 octets")
-}
-
-/// Class, size, flags, then the present properties in wire order.
-fn header_fields(header: &Header) -> Vec<Vec<u8>> {
-    let properties = property_fields(&header.properties);
-    let flag = |(place, fields): (usize, &Option<_>)| u16::from(fields.is_some()) << (15 - place);
-    let flags: u16 = properties.iter().enumerate().map(flag).sum();
-    let mut fields = vec![
-        header.class.to_be_bytes().to_vec(),
-        header.size.to_be_bytes().to_vec(),
-        flags.to_be_bytes().to_vec(),
-    ];
-    fields.extend(properties.into_iter().flatten().flatten());
-    fields
-}
-
-/// The fields of each property that is present, in wire order: flag 15 first.
-fn property_fields(p: &ContentProperties) -> [Option<Vec<Vec<u8>>>; 13] {
-    let string = |text: &Option<String>| text.clone().map(|text| vec![text.into_bytes()]);
-    let octet = |number: Option<u8>| number.map(|number| vec![vec![number]]);
-    [
-        string(&p.content_type),
-        string(&p.content_encoding),
-        p.headers.as_deref().map(table_fields),
-        octet(p.delivery_mode),
-        octet(p.priority),
-        string(&p.correlation_id),
-        string(&p.reply_to),
-        string(&p.expiration),
-        string(&p.message_id),
-        p.timestamp.map(|number| vec![big_endian(number, 8)]),
-        string(&p.type_),
-        string(&p.user_id),
-        string(&p.app_id),
-    ]
-}
-
-/// Class, method and arguments of each command: H, L, Q numbers of 2, 4 and 8 octets, s a short
-/// string, b a flag, p a text of any length (user and password).
-#[rustfmt::skip]
-pub const COMMANDS: [(u16, u16, &str); 25] = [
-    (10, 11, "pp"), (10, 31, "HLH"), (10, 40, "s"),
-    (20, 10, ""), (20, 20, "b"), (20, 21, "b"), (20, 40, "Hs"), (20, 41, ""),
-    (40, 10, "ssb"), (40, 20, "sb"),
-    (50, 10, "sb"), (50, 20, "sss"), (50, 30, "s"), (50, 40, "s"), (50, 50, "sss"),
-    (60, 10, "LHb"), (60, 20, "ssb"), (60, 30, "sb"), (60, 40, "ss"), (60, 70, "sb"),
-    (60, 80, "Qb"), (60, 90, "Qb"), (60, 120, "Qbb"),
-    (85, 10, "b"), (90, 10, ""),
-];
-
-fn command(r: &mut Rng) -> Vec<Vec<u8>> {
-    let (class, method, letters) = r.pick(&COMMANDS);
-    let arguments = letters.chars().map(|letter| argument(r, letter)).collect();
-    command_fields(class, method, arguments)
-}
-
-/// Class, method, then the arguments.
-pub fn command_fields(class: u16, method: u16, arguments: Vec<Vec<u8>>) -> Vec<Vec<u8>> {
-    let ids = [class.to_be_bytes().to_vec(), method.to_be_bytes().to_vec()];
-    ids.into_iter().chain(arguments).collect()
-}
-
-/// An argument by its letter; a few short strings are too long.
-fn argument(r: &mut Rng, letter: char) -> Vec<u8> {
-    match letter {
-        'H' => number(r, 2),
-        'L' => number(r, 4),
-        'Q' => number(r, 8),
-        'b' => vec![r.below(2) as u8],
-        'p' => text_up_to(r, 300).into_bytes(),
-        _ => {
-            let most = if r.one_in(15) { 257 } else { 255 };
-            text_up_to(r, most).into_bytes()
-        }
-    }
-}
-
-/// A payload of the kind that a reply reader reads: class and method (class and weight of a content
-/// header), then arguments by the same letters.
-fn reply(r: &mut Rng, operation: u8) -> Vec<u8> {
-    let letters = match operation {
-        0x20 => "",
-        0x21 => "HLH",   // connection.tune
-        0x22 => "sLL",   // queue.declare-ok
-        0x23 => "s",     // basic.consume-ok
-        0x24 => "L",     // queue.purge-ok, queue.delete-ok
-        0x25 => "QbssL", // basic.get-ok
-        0x26 => "sQbss", // basic.deliver
-        0x27 => "Qb",    // basic.ack
-        _ => "QH",       // a content header
-    };
-    let mut octets = r.octets(4);
-    for letter in letters.chars() {
-        octets.extend(match letter {
-            's' => short_string(text_up_to(r, 255).as_bytes()),
-            _ => argument(r, letter),
-        });
-    }
-    octets
 }

@@ -1,13 +1,10 @@
-//! Cases of field tables and lone values: their edges, long ones, and tables that were recorded.
+//! Cases of field tables and lone values: their edges, long ones, tables that were recorded.
 use crate::Cases;
 use crate::inputs::{LETTERS, edge_numbers, flat_table, long_string, short_string};
 use crate::inputs::{Rng, nested, table_fields, table_octets, value_octets};
-use amqp_rust::line;
+use crate::methods;
 use amqp_rust::tape::{Table, number};
 use amqp_rust::types::{FieldValue, Reader};
-
-/// Tables on the wire, in hexadecimal, a line each.
-const RECORDED: &str = include_str!("recorded.txt");
 
 /// Seconds of 2026-11-16, its first and last, and of the days beside it.
 const DATES: [u64; 5] = [1_794_787_199, 1_794_787_200, 1_794_787_201, 1_794_873_599, 1_794_873_600];
@@ -181,14 +178,22 @@ pub fn long(cases: &mut Cases, r: &mut Rng) {
     cases.case(0x01, &[&long_string(&[b"\0", values.as_slice()].concat())]);
 }
 
-/// The tables of recorded.txt, as a table and as a value, read and written.
-pub fn recorded(cases: &mut Cases) {
-    for line in RECORDED.lines().filter(|line| !line.is_empty() && !line.starts_with('#')) {
-        let fields = line::fields(line.as_bytes()).expect("recorded.txt: octets in hexadecimal");
-        let octets = fields.concat();
-        let table = Reader::new(&octets).field_table().expect("recorded.txt: a table");
-        assert_eq!(table_octets(&table), octets, "recorded.txt: a table as the Rust writes it");
-        table_cases(cases, &table);
-        value_cases(cases, &FieldValue::Table(table));
+/// A table that was recorded, as a table and as a value, read and written.
+pub fn recorded(cases: &mut Cases, octets: &[u8]) {
+    let table = Reader::new(octets).field_table().expect("recorded.txt: a table");
+    assert_eq!(table_octets(&table), octets, "recorded.txt: a table as the Rust writes it");
+    table_cases(cases, &table);
+    value_cases(cases, &FieldValue::Table(table));
+}
+
+/// Small tables and deep ones as the only property of a content header, which has these flags.
+pub fn headers(cases: &mut Cases, flags: u16) {
+    let deep = (13..=17).map(|depth| nested(depth, "FA", Table::new()));
+    for table in tables().into_iter().chain(deep) {
+        methods::property_read(cases, flags, &table_octets(&table));
+        if table.iter().all(|(_, value)| depth(value) <= DEEPEST) {
+            let fields = table_fields(&table);
+            methods::property_written(cases, flags, &[&fields[0], &fields[1]]);
+        }
     }
 }

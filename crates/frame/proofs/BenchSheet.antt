@@ -13,7 +13,7 @@ use Rattle.tables.specs.Forest.{size, meaningOf}
 use Rattle.tables.specs.Reading.{leafAt, nameAt, entriesWithFuel, entriesAt, containerAt, payloadAt, valueWith, valueAt, tableAt, loneValueAt}
 use Rattle.tables.specs.Tape.{flatten, unflatten}
 use Rattle.tables.specs.Writing.{body, judgeRecord, judgeWithFuel, judgeRecords, judgeLoneValue, tapeMeaning, writeLoneValue}
-use Rattle.method.specs.Commands.{fieldsOf}
+use Rattle.method.specs.Commands.{commands, fieldsOf}
 use Rattle.method.specs.Properties.{properties, select}
 use Rattle.method.specs.Writing.{placed, sentArgsMeaning, sentCommandMeaning, fieldOctets, commandOctets, headerOctets, judgeArgs, judgeLengths, headerRefusal, writeHeader}
 use Rattle.frame.specs.Frame.{frameAt, decodeAt, frameOctets}
@@ -27,15 +27,15 @@ octets-15 : List ℕ
 octets-15 = 0 ∷ 10 ∷ 0 ∷ 11 ∷ 0 ∷ 0 ∷ 0 ∷ 36 ∷ 7 ∷ 112 ∷ 114 ∷ 111 ∷ 100 ∷ 117 ∷ 99 ∷ 116 ∷ 83 ∷ 0 ∷ 0 ∷ 0 ∷ 7 ∷ 90 ∷ 101 ∷ 114 ∷ 111 ∷ 68 ∷ 68 ∷ 83 ∷ 7 ∷ 118 ∷ 101 ∷ 114 ∷ 115 ∷ 105 ∷ 111 ∷ 110 ∷ 83 ∷ 0 ∷ 0 ∷ 0 ∷ 3 ∷ 49 ∷ 46 ∷ 48 ∷ 5 ∷ 80 ∷ 76 ∷ 65 ∷ 73 ∷ 78 ∷ 0 ∷ 0 ∷ 0 ∷ 6 ∷ 0 ∷ 97 ∷ 0 ∷ 98 ∷ 0 ∷ 99 ∷ 5 ∷ 101 ∷ 110 ∷ 95 ∷ 85 ∷ 83 ∷ []
 
 first-15 : commandOctets errata (sentCommandMeaning errata (loginOf (97 ∷ []) (98 ∷ 0 ∷ 99 ∷ []))) ≡ octets-15
-unfolding sentArgsMeaning fieldOctets commandOctets fieldsOf loginOf octets-15
+unfolding sentArgsMeaning fieldOctets commandOctets commands fieldsOf loginOf octets-15
 first-15 = refl
 
 second-15 : commandOctets errata (sentCommandMeaning errata (loginOf (97 ∷ 0 ∷ 98 ∷ []) (99 ∷ []))) ≡ octets-15
-unfolding sentArgsMeaning fieldOctets commandOctets fieldsOf loginOf octets-15
+unfolding sentArgsMeaning fieldOctets commandOctets commands fieldsOf loginOf octets-15
 second-15 = refl
 
 pub bench-sheet : BenchSheet
-unfolding character faultFrom fault utf8 numberAt uintAt spanAt longStrAt shortStrAt splice writeAt firstRecords kindOf size meaningOf leafAt nameAt entriesWithFuel entriesAt containerAt payloadAt valueWith valueAt tableAt loneValueAt flatten unflatten body judgeRecord judgeWithFuel judgeRecords judgeLoneValue tapeMeaning writeLoneValue fieldsOf properties select placed sentArgsMeaning fieldOctets commandOctets headerOctets judgeArgs judgeLengths headerRefusal writeHeader frameAt decodeAt frameOctets step.payloadAt frameWithPayloadAt stepAt framePayloadOctets ack persistent loginOf
+unfolding character faultFrom fault utf8 numberAt uintAt spanAt longStrAt shortStrAt splice writeAt firstRecords kindOf size meaningOf leafAt nameAt entriesWithFuel entriesAt containerAt payloadAt valueWith valueAt tableAt loneValueAt flatten unflatten body judgeRecord judgeWithFuel judgeRecords judgeLoneValue tapeMeaning writeLoneValue commands fieldsOf properties select placed sentArgsMeaning fieldOctets commandOctets headerOctets judgeArgs judgeLengths headerRefusal writeHeader frameAt decodeAt frameOctets step.payloadAt frameWithPayloadAt stepAt framePayloadOctets ack persistent loginOf
 bench-sheet =
     record {
       line-1 = refl;

@@ -15,7 +15,7 @@ use Rattle.tables.specs.Forest.{item, words, LocatedTable}
 use Rattle.tables.specs.Reading.{noName, tableAt, loneValueAt}
 use Rattle.tables.specs.Writing.{writeLoneValue}
 use Rattle.method.specs.Fields.{Sent}
-use Rattle.method.specs.Commands.{fieldsOf, Command, call}
+use Rattle.method.specs.Commands.{commands, fieldsOf, Command, call}
 use Rattle.method.specs.Properties.{properties, select, Header, header}
 use Rattle.method.specs.Writing.{sentCommandMeaning, commandOctets, writeHeader}
 use Rattle.frame.specs.Frame.{decodeAt}
@@ -35,7 +35,7 @@ tapeOf letter n = letter ∷ 0 ∷ 0 ∷ n ∷ 0 ∷ 0 ∷ []
 
 -- Ack 5, multiple, channel 1
 unfoldable pub ack : SentFrame
-unfolding fieldsOf
+unfolding commands fieldsOf
 ack = record { channel = 1; payload = command (call 60 80 (5, ((true ∷ []), tt))) }
 
 -- delivery-mode 2 alone
@@ -45,7 +45,7 @@ persistent =
     header 60 0 (false ∷ false ∷ false ∷ true ∷ false ∷ false ∷ false ∷ false ∷ false ∷ false ∷ false ∷ false ∷ false ∷ []) (2, tt)
 
 unfoldable pub loginOf : List ℕ → List ℕ → Command Sent
-unfolding fieldsOf
+unfolding commands fieldsOf
 loginOf user password = call 10 11 (record { user = user; password = password }, tt)
 
 -- k values F one in another, each with the name "a"; the last empty

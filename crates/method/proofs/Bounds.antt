@@ -2,7 +2,7 @@
 use mathlib.Core.Path.{_≡_}
 use mathlib.Core.Option.{Option, none, some}
 use mathlib.Core.List.{List, [], _∷_}
-use Prim.Native.Nat.{ℕ, _-_, _/_, _≤_}
+use Prim.Native.Nat.{ℕ, _+_, _-_, _/_, _≤_}
 use native.Mathlib.Omega.{arith}
 use lib.ListN.{length, length-append}
 use lib.Dec.{leb}
@@ -14,12 +14,13 @@ use Rattle.types.specs.declared.Span.{Span}
 use Rattle.types.proofs.Chain.{then-go, need-given, given-next, given-value}
 use Rattle.types.proofs.RoundTrip.{number-move, span-move, long-move, short-move}
 use Rattle.tables.specs.Letters.{Letters}
+use Rattle.tables.specs.Reading.{tableAt}
 use Rattle.tables.proofs.ReadingLaws.{table-move}
 use Rattle.tables.proofs.TapeLaws.{length-flatten}
 use Rattle.method.specs.Fields.{Kind, number, shortStr, bits, login, table, Field, fixed, arg, Login, Located, Args}
 use Rattle.method.specs.Commands.{known, fieldsOf, Command}
 use Rattle.method.specs.Properties.{properties, select, flagsOf, Header}
-use Rattle.method.specs.Reading.{same, flagsIn, writtenAt, userLength, loginSpans, loginIn, argAt, argTape, tapeOf, fieldsAt, commandAt, headerAt, commandWithTape, headerWithTape}
+use Rattle.method.specs.Reading.{same, flagsIn, writtenAt, userLength, loginSpans, loginIn, argAt, argTape, tapeOf, fixedAt, fieldsAt, commandAt, headerAt, commandWithTape, headerWithTape}
 
 -- from p to q within the octets, with k records in the room
 pub record Within (s : List ℕ) (p room q k : ℕ) : Type 0 where
@@ -37,6 +38,16 @@ login-next s p v (some m) q a n e =
     let b = need-given (utf8 (octetsOf s (loginSpans v m .user))) _ _ a n e in
     let c = need-given (utf8 (octetsOf s (loginSpans v m .password))) _ _ a n (b .1) in
     given-next (loginSpans v m) a q n (c .1)
+
+fixed-move : (xs s : List ℕ) (p : ℕ) (x : Unit {0}) (q : ℕ) → fixedAt xs s p ≡ given x q → (q ≡ p + length xs) × (q ≤ length s)
+unfolding fixedAt
+fixed-move xs s p x q e =
+    then-go (spanAt (length xs) s p) _ x q e
+    (λ v r e1 h1.
+    let a = span-move (length xs) s p v r e1 in
+    let b = need-given (same (octetsOf s v) xs) _ _ x q h1 in
+    let m = given-next tt x r q (b .1) in
+    (omega (arith, a .0), omega (arith, a .1)))
 
 module _ (letters : Letters) where
   pub arg-within : (k : Kind) (s : List ℕ) (p room : ℕ) (v : Located k) (q : ℕ) → argAt letters k s p room ≡ given v q → Within s p room q (length (argTape k v))
@@ -60,21 +71,24 @@ module _ (letters : Letters) where
       let m = login-next s p x (userLength (octetsOf s x)) r v q h1 in
       record { far = omega (arith, a .0); inside = omega (arith, a .1); fits = omega arith })
   arg-within table s p room v q e =
-      let a = table-move letters s p room v q e in
-      record { far = omega (arith, a .far); inside = a .inside; fits = omega (arith, a .fits, length-flatten v) }
+      then-go (tableAt letters s p room) _ v q e
+      (λ t r e1 h1.
+      let a = table-move letters s p room t r e1 in
+      let m = given-next (record { start = p; entries = t }) v r q h1 in
+      let w = given-value (record { start = p; entries = t }) v r q h1 in
+      rw (← w) (record { far = omega (arith, a .far); inside = omega (arith, a .inside); fits = omega (arith, a .fits, length-flatten t) }))
 
   pub fields-within : (fs : List Field) (s : List ℕ) (p room : ℕ) (vs : Args Located fs) (q : ℕ) → p ≤ length s → fieldsAt letters fs s p room ≡ given vs q
       → Within s p room q (length (tapeOf fs vs))
-  unfolding fieldsAt tapeOf
+  unfolding fieldsAt fixedAt tapeOf
   fields-within [] s p room vs q h e =
       let m = given-next _ vs p q e in
       record { far = omega arith; inside = omega arith; fits = omega arith }
   fields-within (fixed xs ∷ fs) s p room vs q h e =
-      then-go (spanAt (length xs) s p) _ vs q e
-      (λ v r e1 h1.
-      let a = span-move (length xs) s p v r e1 in
-      let b = need-given (same (octetsOf s v) xs) _ _ vs q h1 in
-      let c = fields-within fs s r room vs q (a .1) (b .1) in
+      then-go (fixedAt xs s p) _ vs q e
+      (λ x r e1 h1.
+      let a = fixed-move xs s p x r e1 in
+      let c = fields-within fs s r room vs q (a .1) h1 in
       record { far = omega (arith, a .0, c .far); inside = c .inside; fits = c .fits })
   fields-within (arg k ∷ fs) s p room vs q h e =
       then-go (argAt letters k s p room) _ vs q e

@@ -28,7 +28,7 @@ use Rattle.tables.proofs.RoundTrip.{table-here, table-cut, forest-meaning}
 use Rattle.tables.proofs.TapeLaws.{length-flatten, forest-place}
 use Rattle.method.specs.Fields.{Kind, number, shortStr, bits, login, table, Field, fixed, arg, Login, Meaning, Located, Args}
 use Rattle.method.specs.Writing.{placed, howMany, loginText, argOctets, fieldOctets, NoNul, values, valuesIn}
-use Rattle.method.specs.Reading.{same, flagsIn, oneMore, untilNul, loginSpans, argAt, argTape, tapeOf, fieldsAt, returnedArg, returnedArgs, argMeaning, used, argsMeaning}
+use Rattle.method.specs.Reading.{same, flagsIn, oneMore, untilNul, loginSpans, argAt, argTape, tapeOf, fixedAt, fieldsAt, returnedArg, returnedArgs, argMeaning, used, argsMeaning}
 
 -- flags
 bit-odd : (b : Bool) (n : ℕ) → eqb ((bit b + 2 * n) % 2) 1 ≡ b
@@ -125,7 +125,7 @@ module _ (letters : Letters) where
   place shortStr p xs = placeShort p xs
   place (bits places) p flags = flags
   place login p x = placeLogin p x
-  place table p t = placeForest letters true (p + 4) t
+  place table p t = record { start = p; entries = placeForest letters true (p + 4) t }
 
   login-here : {s : List ℕ} {p : ℕ} (x : Login (List ℕ)) (room : ℕ) → Fit letters login x → Stands s p (argOctets letters login x)
       → argAt letters login s p room ≡ given (placeLogin p x) (p + length (argOctets letters login x))
@@ -150,7 +150,7 @@ module _ (letters : Letters) where
   arg-here {s} {p} (bits places) v room f c h =
       rw (number-here 1 (packBits (placed places v)) (pack-octet places v (f .1)) h, flags-back places v (f .0))
   arg-here {s} {p} login v room f c h = login-here v room f h
-  arg-here {s} {p} table v room f c h = table-here letters v room (f .0) (f .1) c h
+  arg-here {s} {p} table v room f c h = rw (table-here letters v room (f .0) (f .1) c h)
 
   pub arg-cut : {s : List ℕ} {p : ℕ} (k : Kind) (v : Meaning k) (room : ℕ) → Fit letters k v → Cut s p (argOctets letters k v) → argAt letters k s p room ≡ refused truncated
   unfolding argAt
@@ -158,7 +158,7 @@ module _ (letters : Letters) where
   arg-cut {s} {p} shortStr v room f c = short-cut v f c
   arg-cut {s} {p} (bits places) v room f c = rw (number-past 1 s p (omega (arith, c .less)))
   arg-cut {s} {p} login v room f c = rw (long-cut (loginText v) (f .3) c)
-  arg-cut {s} {p} table v room f c = table-cut letters v room (f .1) c
+  arg-cut {s} {p} table v room f c = rw (table-cut letters v room (f .1) c)
 
   pub tape-size : (k : Kind) (v : Meaning k) (p : ℕ) → length (argTape k (place k p v)) ≡ values k v
   unfolding place
@@ -196,7 +196,7 @@ module _ (letters : Letters) where
 
   pub fields-here : {s : List ℕ} {p : ℕ} (fs : List Field) (vs : Args Meaning fs) (room : ℕ) → Fits letters fs vs → valuesIn fs vs ≤ room → Stands s p (fieldOctets letters fs vs)
       → fieldsAt letters fs s p room ≡ given (placeAll fs p vs) (p + length (fieldOctets letters fs vs))
-  unfolding fieldsAt fieldOctets placeAll
+  unfolding fieldsAt fixedAt fieldOctets placeAll
   fields-here {s} {p} [] vs room f r h = rw (add-zero p)
   fields-here {s} {p} (fixed xs ∷ fs) vs room f r h =
       let a = stands-left xs (fieldOctets letters fs vs) h in
@@ -220,7 +220,7 @@ module _ (letters : Letters) where
 
   pub fields-cut : {s : List ℕ} {p : ℕ} (fs : List Field) (vs : Args Meaning fs) (room : ℕ) → Fits letters fs vs → valuesIn fs vs ≤ room → Cut s p (fieldOctets letters fs vs)
       → fieldsAt letters fs s p room ≡ refused truncated
-  unfolding fieldsAt fieldOctets
+  unfolding fieldsAt fixedAt fieldOctets
   fields-cut {s} {p} [] vs room f r c = absurd (omega (arith, c .less, c .inside))
   fields-cut {s} {p} (fixed x ∷ fs) vs room f r c =
       cut-split x (fieldOctets letters fs vs) c
@@ -262,7 +262,7 @@ module _ (letters : Letters) where
   -- a fixed field that differs is NotWritten at its first octet, and a set bit without an argument at the bit octet
   pub fields-differ : {s : List ℕ} {p : ℕ} (c xs : List ℕ) (fs : List Field) (room : ℕ) → Stands s p xs → length xs ≡ length c → same xs c ≡ false
       → fieldsAt letters (fixed c ∷ fs) s p room ≡ refused (notWritten p)
-  unfolding fieldsAt
+  unfolding fieldsAt fixedAt
   fields-differ {s} {p} c xs fs room h l d = rw (← l, span-here (length xs) s p (h .fits), h .same, d)
 
   pub flags-spare : {s : List ℕ} {p : ℕ} (places : List Bool) (n : ℕ) (fs : List Field) (room : ℕ) → n < 256 → Stands s p (octets 1 n) → flagsIn places n ≡ none

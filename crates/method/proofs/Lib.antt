@@ -1,5 +1,9 @@
 -- Laws of the specification of commands and content headers.
 pub mod FieldLaws
+pub mod LayoutLaws
+pub mod WordLaws
 pub mod MethodLaws
 pub mod Bounds
 pub mod PooledLaws
+pub mod FixedLaws
+pub mod CommandLaws

@@ -1,13 +1,13 @@
 -- Commands and content headers that their writers accept are read back as they were written.
 use mathlib.Core.Path.{_≡_, refl, sym, ap, _∙_}
-use mathlib.Core.Bool.{Bool, true, false, _&&_, cond}
-use mathlib.Core.Option.{none, some}
+use mathlib.Core.Bool.{Bool, true, false}
+use mathlib.Core.Option.{none}
 use mathlib.Core.List.{List, [], _∷_, _++_}
 use Prim.Native.Nat.{ℕ, _+_, _-_, _*_, _^_, _/_, _≤_, _<_}
 use native.Mathlib.Omega.{arith}
 use native.Mathlib.Nat.{two-pow-succ}
 use lib.ListN.{length}
-use lib.Dec.{leb, eqb}
+use lib.Dec.{leb}
 use lib.Arith.{digits-mod}
 use Rattle.utf8.specs.Utf8.{utf8}
 use Rattle.types.specs.Answer.{given, notUtf8, tooLong}
@@ -23,10 +23,11 @@ use Rattle.tables.specs.Letters.{Letters}
 use Rattle.tables.specs.Writing.{body, tapeMeaning}
 use Rattle.tables.proofs.JudgeLaws.{Octets, and-true, table-fit}
 use Rattle.method.specs.Fields.{Kind, number, shortStr, bits, login, table, Field, fixed, arg, Meaning, Sent, Located, Args}
-use Rattle.method.specs.Commands.{Row, commands, fieldsIn, orNone, known, fieldsOf, Command, call}
+use Rattle.method.specs.Commands.{commands, known, fieldsOf, Command, call}
 use Rattle.method.specs.Properties.{properties, select, flagsNumber, flagsOf, Header, header}
 use Rattle.method.specs.Writing.{loginText, sentArgMeaning, sentArgsMeaning, sentCommandMeaning, sentHeaderMeaning, commandValues, headerValues, fieldOctets, commandOctets, headerOctets, judgeArg, judgeArgs, judgeArgLength, judgeLengths, commandRefusal, headerRefusal, Typed, TypedAll, TypedCommand, TypedHeader, NoNulArg, NoNulArgs, NoNulCommand}
 use Rattle.method.specs.Reading.{commandAt, headerAt, commandWithTape, headerWithTape, commandMeaning, headerMeaning}
+use Rattle.method.proofs.LayoutLaws.{every, every-command, select-every}
 use Rattle.method.proofs.FieldLaws.{Fit, Fits, placeAll, fields-here, tape-sizes, args-meaning}
 
 -- Flags
@@ -43,10 +44,10 @@ flags-of (true ∷ ps) = rw (leb-yes (2 ^ length ps) (1 * 2 ^ length ps + flagsN
 flags-of (false ∷ ps) =
     rw (leb-no (2 ^ length ps) (0 * 2 ^ length ps + flagsNumber ps) (omega (arith, flags-lt ps)), digits-mod 0 (flags-lt ps), flags-of ps)
 
-flags-octets : (ps : List Bool) → length ps ≡ 13 → 8 * flagsNumber ps < 256 ^ 2
+pub flags-octets : (ps : List Bool) → length ps ≡ 13 → 8 * flagsNumber ps < 256 ^ 2
 flags-octets ps e = let l : flagsNumber ps < 2 ^ 13 = rw e at (flags-lt ps) in omega arith
 
-flags-read : (ps : List Bool) → length ps ≡ 13 → flagsOf 13 (8 * flagsNumber ps / 8) ≡ ps
+pub flags-read : (ps : List Bool) → length ps ≡ 13 → flagsOf 13 (8 * flagsNumber ps / 8) ≡ ps
 flags-read ps e =
     let d : 8 * flagsNumber ps / 8 ≡ flagsNumber ps = omega arith in
     rw d (ap (λ (w : ℕ). flagsOf w (flagsNumber ps)) (sym e) ∙ flags-of ps)
@@ -61,36 +62,11 @@ smallPlaces (arg (bits places)) = leb (length places) 8
 smallPlaces (arg login) = true
 smallPlaces (arg table) = true
 
-abbrev every : {A : Type 0} → (A → Bool) → List A → Bool
-every f [] = true
-every f (x ∷ xs) = f x && every f xs
-
 abbrev Small : List Field → Type 0
 Small fs = every smallPlaces fs ≡ true
 
-small-in : (rs : List Row) (c m : ℕ) → every (λ r. every smallPlaces (r .fields)) rs ≡ true → Small (orNone (fieldsIn rs c m))
-small-in [] c m e = refl
-small-in (r ∷ rs) c m e =
-    let a = and-true (every smallPlaces (r .fields)) (every (λ y. every smallPlaces (y .fields)) rs) e in
-    go (a .0) (eqb c (r .class)) (eqb m (r .method)) (small-in rs c m (a .1))
-  where
-    go : Small (r .fields) → (p q : Bool) → Small (orNone (fieldsIn rs c m)) → Small (orNone (cond p (cond q (some (r .fields)) (fieldsIn rs c m)) (fieldsIn rs c m)))
-    go s true true ih = s
-    go s true false ih = ih
-    go s false q ih = ih
-
-select-every : (f : Field → Bool) (ps : List Bool) (fs : List Field) → every f fs ≡ true → every f (select ps fs) ≡ true
-unfolding select
-select-every f [] fs e = refl
-select-every f (p ∷ ps) [] e = refl
-select-every f (true ∷ ps) (x ∷ fs) e =
-    let a = and-true (f x) (every f fs) e in
-    rw (a .0) (select-every f ps fs (a .1))
-select-every f (false ∷ ps) (x ∷ fs) e = select-every f ps fs ((and-true (f x) (every f fs) e) .1)
-
 commands-small : (c m : ℕ) → Small (fieldsOf c m)
-unfolding fieldsOf
-commands-small c m = small-in commands c m refl
+commands-small c m = every-command (every smallPlaces) c m refl (unfold commands in refl)
 
 properties-small : (ps : List Bool) → Small (select ps properties)
 properties-small ps = select-every smallPlaces ps properties (unfold properties in refl)

@@ -6,7 +6,7 @@ use mathlib.Core.List.{List, [], _∷_}
 use Rattle.types.specs.declared.Span.{Span}
 use Rattle.method.specs.Fields.{Kind, Field, fixed, arg, Returned, Args}
 use Rattle.method.specs.Commands as table
-use Rattle.method.specs.Commands.{fieldsOf, call}
+use Rattle.method.specs.Commands.{commands, fieldsOf, call}
 use Rattle.method.specs.Properties.{properties, select, Header, header}
 use Rattle.method.specs.declared.Command.{Command}
 use Rattle.method.specs.declared.Command.the-variants.{ConnectionStartOk, ConnectionTuneOk, ConnectionOpen, ChannelOpen, ChannelFlow, ChannelFlowOk, ChannelClose, ChannelCloseOk, ExchangeDeclare, ExchangeDelete, QueueDeclare, QueueBind, QueueUnbind, QueuePurge, QueueDelete, BasicQos, BasicConsume, BasicCancel, BasicPublish, BasicGet, BasicAck, BasicReject, BasicNack, ConfirmSelect, TxSelect}
@@ -22,10 +22,10 @@ use Rattle.method.specs.declared.ContentProperties.{ContentProperties}
 use Rattle.method.specs.declared.ContentHeader.{ContentHeader}
 
 unfoldable pub commandOf : Command → table.Command Returned
-unfolding fieldsOf
+unfolding fieldsOf commands
 commandOf (ConnectionStartOk user password) = call 10 11 (record { user = user; password = password }, tt)
 commandOf (ConnectionTuneOk channel-max frame-max heartbeat) = call 10 31 (channel-max, (frame-max, (heartbeat, tt)))
-commandOf (ConnectionOpen vhost) = call 10 40 (vhost, ([], tt))
+commandOf (ConnectionOpen vhost) = call 10 40 (vhost, tt)
 commandOf ChannelOpen = call 20 10 tt
 commandOf (ChannelFlow active) = call 20 20 ((active ∷ []), tt)
 commandOf (ChannelFlowOk active) = call 20 21 ((active ∷ []), tt)
@@ -34,14 +34,14 @@ commandOf ChannelCloseOk = call 20 41 tt
 commandOf (ExchangeDeclare name kind durable) = call 40 10 (name, (kind, ((durable ∷ []), tt)))
 commandOf (ExchangeDelete name if-unused) = call 40 20 (name, ((if-unused ∷ []), tt))
 commandOf (QueueDeclare queue durable) = call 50 10 (queue, ((durable ∷ []), tt))
-commandOf (QueueBind queue exchange key) = call 50 20 (queue, (exchange, (key, ([], tt))))
+commandOf (QueueBind queue exchange key) = call 50 20 (queue, (exchange, (key, tt)))
 commandOf (QueueUnbind queue exchange key) = call 50 50 (queue, (exchange, (key, tt)))
-commandOf (QueuePurge queue) = call 50 30 (queue, ([], tt))
-commandOf (QueueDelete queue) = call 50 40 (queue, ([], tt))
+commandOf (QueuePurge queue) = call 50 30 (queue, tt)
+commandOf (QueueDelete queue) = call 50 40 (queue, tt)
 commandOf (BasicQos size count global) = call 60 10 (size, (count, ((global ∷ []), tt)))
 commandOf (BasicConsume queue tag no-ack) = call 60 20 (queue, (tag, ((no-ack ∷ []), tt)))
 commandOf (BasicCancel tag no-wait) = call 60 30 (tag, ((no-wait ∷ []), tt))
-commandOf (BasicPublish exchange key) = call 60 40 (exchange, (key, ([], tt)))
+commandOf (BasicPublish exchange key) = call 60 40 (exchange, (key, tt))
 commandOf (BasicGet queue no-ack) = call 60 70 (queue, ((no-ack ∷ []), tt))
 commandOf (BasicAck tag multiple) = call 60 80 (tag, ((multiple ∷ []), tt))
 commandOf (BasicReject tag requeue) = call 60 90 (tag, ((requeue ∷ []), tt))

@@ -31,9 +31,23 @@ s0 = fixed (shortStr [])
 abbrev pub e : Field
 e = fixed (0 ∷ 0 ∷ 0 ∷ 0 ∷ [])
 
--- true for an argument, false for a fixed bit
+-- a bit octet, lowest bit first: true for an argument, false for a fixed bit. All bits behind the last argument are fixed too, and so is an
+-- octet without an argument
+abbrev pub withBit : Bool → List Bool → List Bool
+withBit false [] = []
+withBit false (p ∷ places) = false ∷ p ∷ places
+withBit true places = true ∷ places
+
+abbrev pub upToLast : List Bool → List Bool
+upToLast [] = []
+upToLast (p ∷ places) = withBit p (upToLast places)
+
+abbrev pub bitOctet : List Bool → Field
+bitOctet [] = fixed (0 ∷ [])
+bitOctet (p ∷ places) = arg (bits (p ∷ places))
+
 abbrev pub b : List Bool → Field
-b places = arg (bits places)
+b places = bitOctet (upToLast places)
 
 -- product ZeroDDS, version 1.0, as S
 abbrev pub clientProperties : List ℕ
@@ -58,7 +72,7 @@ pub record Row : Type 0 where
 abbrev row : ℕ → ℕ → List Field → Row
 row c m fs = record { class = c; method = m; fields = fs }
 
-abbrev pub commands : List Row
+unfoldable pub commands : List Row
 commands =
     row 10 11 (fixed clientProperties ∷ fixed (shortStr plain) ∷ arg login ∷ fixed (shortStr enUS) ∷ [])  -- connection.start-ok
     ∷ row 10 31 (H ∷ L ∷ H ∷ [])  -- connection.tune-ok

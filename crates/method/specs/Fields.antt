@@ -45,14 +45,18 @@ Sent (bits places) = List Bool
 Sent login = Login (List ℕ)
 Sent table = SentTable
 
--- as it is located in octets
+-- as it is located in octets, a table by its first octet and its entries
+
+pub record TableIn : Type 0 where
+  pub start : ℕ
+  pub entries : LocatedTable
 
 abbrev pub Located : Kind → Type 0
 Located (number k) = ℕ
 Located shortStr = Span
 Located (bits places) = List Bool
 Located login = Login Span
-Located table = LocatedTable
+Located table = TableIn
 
 -- and as a reader returns it: of a table, which is on the tape, the number of its records
 

@@ -4,6 +4,7 @@ pub mod Commands
 pub mod Properties
 pub mod Writing
 pub mod Reading
-pub mod Replies
 pub mod Pooled
+pub mod Words
+pub mod Layout
 pub mod AnswerOf

@@ -13,7 +13,8 @@ use Rattle.types.specs.declared.Span.{Span}
 use Rattle.tables.specs.Letters.{Letters}
 use Rattle.tables.specs.Forest.{size, meaningOf}
 use Rattle.tables.specs.Reading.{tableAt}
-use Rattle.tables.specs.Tape.{Record, flatten, forestOf, WithTape}
+use Rattle.types.specs.Memory.{Outcome}
+use Rattle.tables.specs.Tape.{Record, flatten, forestOf, WithTape, WithCount, roomOf, fillTape}
 use Rattle.method.specs.Fields.{Kind, number, shortStr, bits, login, table, Field, fixed, arg, Login, Meaning, Located, Returned, Args}
 use Rattle.method.specs.Commands.{known, fieldsOf, Command, call}
 use Rattle.method.specs.Properties.{properties, select, flagsOf, Header, header}
@@ -61,19 +62,20 @@ loginSpans v m =
       password = record { start = v .start + m + 2; len = v .len - (m + 2) };
     }
 
+abbrev pub loginUtf8 : List ℕ → Login Span → ℕ → Answer (Login Span)
+loginUtf8 s x q = need (utf8 (octetsOf s (x .user))) notUtf8 (need (utf8 (octetsOf s (x .password))) notUtf8 (given x q))
+
 -- first NotWritten at its length field p, then NotUtf8
 abbrev pub loginIn : List ℕ → ℕ → Span → Option ℕ → ℕ → Answer (Login Span)
 loginIn s p v none q = refused (notWritten p)
-loginIn s p v (some m) q =
-    need (utf8 (octetsOf s (loginSpans v m .user))) notUtf8
-    (need (utf8 (octetsOf s (loginSpans v m .password))) notUtf8 (given (loginSpans v m) q))
+loginIn s p v (some m) q = loginUtf8 s (loginSpans v m) q
 
 unfoldable pub argAt : Letters → (k : Kind) → List ℕ → ℕ → ℕ → Answer (Located k)
 argAt letters (number k) s p room = uintAt k s p
 argAt letters shortStr s p room = shortStrAt s p
 argAt letters (bits places) s p room = andThen (uintAt 1 s p) (λ n q. writtenAt p (flagsIn places n) q)
 argAt letters login s p room = andThen (longStrAt s p) (λ v q. loginIn s p v (userLength (octetsOf s v)) q)
-argAt letters table s p room = tableAt letters s p room
+argAt letters table s p room = andThen (tableAt letters s p room) (λ t q. given (record { start = p; entries = t }) q)
 
 -- the tape records of what is located
 abbrev pub argTape : (k : Kind) → Located k → List Record
@@ -81,45 +83,48 @@ argTape (number k) n = []
 argTape shortStr x = []
 argTape (bits places) flags = []
 argTape login x = []
-argTape table t = flatten t
+argTape table t = flatten (t .entries)
 
 unfoldable pub tapeOf : (fs : List Field) → Args Located fs → List Record
 tapeOf [] vs = []
 tapeOf (fixed xs ∷ fs) vs = tapeOf fs vs
 tapeOf (arg k ∷ fs) vs = argTape k (vs .0) ++ tapeOf fs (vs .1)
 
--- fields in octet order: a fixed one is taken whole, and is NotWritten at its first octet if it differs
+-- a fixed field is taken whole, and is NotWritten at its first octet if it differs
+unfoldable pub fixedAt : List ℕ → List ℕ → ℕ → Answer Unit
+fixedAt xs s p = andThen (spanAt (length xs) s p) (λ v q. need (same (octetsOf s v) xs) (notWritten p) (given tt q))
+
+-- fields in octet order
 unfoldable pub fieldsAt : Letters → (fs : List Field) → List ℕ → ℕ → ℕ → Answer (Args Located fs)
 fieldsAt letters [] s p room = given tt p
-fieldsAt letters (fixed xs ∷ fs) s p room =
-    andThen (spanAt (length xs) s p) (λ v q. need (same (octetsOf s v) xs) (notWritten p) (fieldsAt letters fs s q room))
+fieldsAt letters (fixed xs ∷ fs) s p room = andThen (fixedAt xs s p) (λ x q. fieldsAt letters fs s q room)
 fieldsAt letters (arg k ∷ fs) s p room =
     andThen (argAt letters k s p room)
     (λ v q. andThen (fieldsAt letters fs s q (room - length (argTape k v))) (λ vs r. given (v, vs) r))
 
--- class and method, the pair's arguments, and no octet more
+-- a pair's arguments, and no octet more
+abbrev pub argumentsAt : Letters → ℕ → ℕ → List ℕ → ℕ → ℕ → Answer (Command Located)
+argumentsAt letters c m s p room =
+    andThen (fieldsAt letters (fieldsOf c m) s p room) (λ vs q. need (leb (length s) q) (notWritten q) (given (call c m vs) q))
+
+-- behind class and method
 unfoldable pub commandAt : Letters → List ℕ → ℕ → ℕ → Answer (Command Located)
 commandAt letters s p room =
     andThen (uintAt 2 s p)
-    (λ c q.
-    andThen (uintAt 2 s q)
-    (λ m r.
-    need (known c m) (unknownMethod c m)
-    (andThen (fieldsAt letters (fieldsOf c m) s r room) (λ vs t. need (leb (length s) t) (notWritten t) (given (call c m vs) t)))))
+    (λ c q. andThen (uintAt 2 s q) (λ m r. need (known c m) (unknownMethod c m) (argumentsAt letters c m s r room)))
 
--- class, weight, body size, flags, the properties present; weight, flags 2 to 0 and what follows are ignored
+-- the properties present, by thirteen flags
+abbrev pub propertiesAt : Letters → ℕ → ℕ → ℕ → List ℕ → ℕ → ℕ → Answer (Header Located)
+propertiesAt letters c n flags s p room =
+    andThen (fieldsAt letters (select (flagsOf 13 flags) properties) s p room) (λ vs q. given (header c n (flagsOf 13 flags) vs) q)
+
+-- behind class, weight, body size and flags; weight, flags 2 to 0 and what follows are ignored
 unfoldable pub headerAt : Letters → List ℕ → ℕ → ℕ → Answer (Header Located)
 headerAt letters s p room =
     andThen (uintAt 2 s p)
     (λ c q.
     andThen (uintAt 2 s q)
-    (λ weight r.
-    andThen (uintAt 8 s r)
-    (λ n t.
-    andThen (uintAt 2 s t)
-    (λ flags u.
-    andThen (fieldsAt letters (select (flagsOf 13 (flags / 8)) properties) s u room)
-    (λ vs v. given (header c n (flagsOf 13 (flags / 8)) vs) v)))))
+    (λ weight r. andThen (uintAt 8 s r) (λ n t. andThen (uintAt 2 s t) (λ flags u. propertiesAt letters c n (flags / 8) s u room))))
 
 -- What is returned of what is located, with its tape records
 
@@ -128,7 +133,7 @@ returnedArg (number k) n = n
 returnedArg shortStr x = x
 returnedArg (bits places) flags = flags
 returnedArg login x = x
-returnedArg table t = size t
+returnedArg table t = size (t .entries)
 
 unfoldable pub returnedArgs : (fs : List Field) → Args Located fs → Args Returned fs
 returnedArgs [] vs = tt
@@ -141,6 +146,16 @@ commandWithTape (call c m vs) = record { value = call c m (returnedArgs (fieldsO
 abbrev pub headerWithTape : Header Located → WithTape (Header Returned)
 headerWithTape (header c n present vs) =
     record { value = header c n present (returnedArgs (select present properties) vs); tape = tapeOf (select present properties) vs }
+
+-- Readers onto the records behind the used ones, with all of the tape at exit
+
+unfoldable pub readCommand : Letters → List ℕ → ℕ → ℕ → List ℕ → Outcome (WithCount (Command Returned))
+readCommand letters s at used tape =
+    fillTape used tape (andThen (commandAt letters s at (roomOf used tape)) (λ x q. given (commandWithTape x) q))
+
+unfoldable pub readHeader : Letters → List ℕ → ℕ → ℕ → List ℕ → Outcome (WithCount (Header Returned))
+readHeader letters s at used tape =
+    fillTape used tape (andThen (headerAt letters s at (roomOf used tape)) (λ x q. given (headerWithTape x) q))
 
 -- The meaning of what is returned, over the octets and its tape records
 

@@ -1,6 +1,4 @@
 // Answers cases, one to a line of standard input, by a line each on standard output: the crate `lines` has their form.
-mod answer;
-
 use libc::STDERR_FILENO;
 use libc::STDIN_FILENO;
 use lines::print;
@@ -38,7 +36,7 @@ fn take(
     if b == b'\n' {
         Progress {
             held: 0,
-            pending: answer::answer(line, p.held, lent, tape, out, p.pending),
+            pending: answers::answer(line, p.held, lent, tape, out, p.pending),
             ended: false,
         }
     } else {
@@ -119,7 +117,7 @@ fn replay(line: &mut [u8], lent: &mut [u8], tape: &mut [u64], out: &mut [u8]) {
         print::flush(out, p.pending);
         return;
     }
-    let end = answer::answer(line, p.held, lent, tape, out, p.pending);
+    let end = answers::answer(line, p.held, lent, tape, out, p.pending);
     print::flush(out, end);
 }
 

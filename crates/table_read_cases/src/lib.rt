@@ -15,12 +15,12 @@ use tables::tape::RECORD_WORDS;
 use types::Cursor;
 
 // One record in front is used.
-const USED: usize = 1;
+pub const USED: usize = 1;
 
 // Words in it, and three behind the last record, which are no record.
 const BESIDE: usize = 9;
 
-// The most records that 01 and 02 are lent: they have 393,225 words with those.
+// The most records that a reader is lent: they have 393,225 words with those.
 const MOST: usize = 65_536;
 
 fn read(op: u8, s: &[u8], tape: &mut [u64]) -> ReadRecords {
@@ -52,10 +52,17 @@ fn record_shown(
 }
 
 // The number of records, then the records.
-fn records(s: &[u8], tape: &[u64], count: usize, by_words: bool, out: &mut [u8], at: usize) -> usize
+pub fn records(
+    s: &[u8],
+    tape: &[u64],
+    count: usize,
+    by_words: bool,
+    out: &mut [u8],
+    at: usize,
+) -> usize
     ensures { λ r. ⌜ r ≤ length (now (out .entry)) ⌝ }
 {
-    let mut next = print::and_number(out, at, b' ', count as u64);
+    let mut next = print::hex(out, at, count as u64);
     let mut k = 0;
     while k < count {
         next = record_shown(s, tape, k, by_words, out, next);
@@ -65,7 +72,7 @@ fn records(s: &[u8], tape: &[u64], count: usize, by_words: bool, out: &mut [u8],
 }
 
 // Whether nothing is changed but `count` records behind the used ones.
-fn kept(tape: &[u64], count: usize) -> bool {
+pub fn kept(tape: &[u64], count: usize) -> bool {
     if tape.len() / RECORD_WORDS < USED {
         return false;
     }
@@ -84,7 +91,8 @@ fn judge(r: ReadRecords, s: &[u8], tape: &[u64], by_words: bool, out: &mut [u8],
             if !kept(tape, count) {
                 return print::text(out, at, b"# changed");
             }
-            let end = print::given(out, at, next.at);
+            let given = print::given(out, at, next.at);
+            let end = print::put(out, given, b' ');
             records(s, tape, count, by_words, out, end)
         }
         ReadRecords::Refused(e) => {
@@ -97,7 +105,7 @@ fn judge(r: ReadRecords, s: &[u8], tape: &[u64], by_words: bool, out: &mut [u8],
 }
 
 // How many words a tape of `all` words can lend for `room` free records; 0 where that is too many.
-fn words_for(room: usize, all: usize) -> usize
+pub fn words_for(room: usize, all: usize) -> usize
     ensures { λ r. ⌜ r ≤ all ⌝ }
 {
     if all < BESIDE {
@@ -147,7 +155,12 @@ pub fn answer_with_room(
     answer_lent(op, octets, marks, room, true, tape, out, at)
 }
 
-// 01 and 02: a record takes an octet or more, so as many records as octets suffice.
+// A record takes an octet or more, so as many records as octets suffice.
+pub fn room_for(len: usize) -> usize {
+    if len < MOST { len } else { MOST }
+}
+
+// 01 and 02.
 pub fn answer(
     op: u8,
     octets: &[u8],
@@ -158,7 +171,6 @@ pub fn answer(
 ) -> usize
     ensures { λ r. ⌜ r ≤ length (now (out .entry)) ⌝ }
 {
-    let len = line::field(octets, marks, 1).len();
-    let room = if len < MOST { len } else { MOST };
+    let room = room_for(line::field(octets, marks, 1).len());
     answer_lent(op, octets, marks, room, false, tape, out, at)
 }

@@ -31,7 +31,7 @@ pub enum ReadRecords {
 const LEVELS: usize = 15;
 
 // The records of a tape that are free behind the used ones.
-fn room(tape: &[u64], used: usize) -> usize
+pub fn room(tape: &[u64], used: usize) -> usize
     ensures { λ r. ⌜ r ≡ roomOf used (now (tape .entry)) ⌝ }
 {
     let records = tape.len() / RECORD_WORDS;

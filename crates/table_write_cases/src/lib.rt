@@ -15,7 +15,7 @@ use types::Cursor;
 use types::ReadU64;
 use writers::Written;
 
-const WORD_OCTETS: usize = 8;
+pub const WORD_OCTETS: usize = 8;
 
 // Octets of a record beside its name and its string, and more.
 const RECORD_OCTETS: usize = 16;
@@ -48,7 +48,7 @@ fn load(s: &[u8], tape: &mut [u64]) {
 }
 
 // The octets that writing may take, with some to spare, but no more than `most`.
-fn more(sum: usize, n: usize, most: usize) -> usize
+pub fn more(sum: usize, n: usize, most: usize) -> usize
     ensures { λ r. ⌜ r ≤ most ⌝ }
 {
     if most < sum {
@@ -77,7 +77,7 @@ fn more_of(sum: usize, tape: &[u64], k: usize, most: usize) -> usize
     }
 }
 
-fn needed(tape: &[u64], most: usize) -> usize
+pub fn needed(tape: &[u64], most: usize) -> usize
     ensures { λ r. ⌜ r ≤ most ⌝ }
 {
     let mut sum = more(0, RECORD_OCTETS, most);
@@ -170,8 +170,14 @@ fn repeat(tape: &mut [u64], from: usize) {
     }
 }
 
+// The words of a tape in octets, then its last record again and again.
+pub fn load_repeated(s: &[u8], tape: &mut [u64]) {
+    load(s, tape);
+    repeat(tape, s.len() / WORD_OCTETS);
+}
+
 // How many words `n` are with `times` records more; 0 where that is over `most`.
-fn repeated_words(n: usize, times: usize, most: usize) -> usize
+pub fn repeated_words(n: usize, times: usize, most: usize) -> usize
     ensures { λ r. ⌜ r ≤ most ⌝ }
 {
     if most < n {
@@ -204,8 +210,7 @@ fn write_repeated(
     if octets.len() < pool {
         return print::put(out, at, b'?');
     }
-    load(words, &mut tape[0..n]);
-    repeat(&mut tape[0..n], words.len() / WORD_OCTETS);
+    load_repeated(words, &mut tape[0..n]);
     write_tape(op, &octets[0..pool], &tape[0..n], space, lent, out, at)
 }
 

@@ -3,6 +3,8 @@ ghost use Prim.Native.Nat.{_≤_};
 ghost use lib.ListN.{length};
 use lines::line;
 use lines::print;
+use method_read_cases::commands;
+use method_read_cases::headers;
 use table_write_cases::Space;
 
 // 50: a writer with `space` octets. The marks are those of its case.
@@ -16,9 +18,12 @@ fn with_space(
     at: usize,
 ) -> usize {
     let op = line::operation(octets, marks);
+    let octets_lent = Space::Octets(space);
     match op {
+        0x30..=0x31 => {
+            method_write_cases::answer(op, octets, marks, octets_lent, lent, tape, out, at)
+        }
         0x33..=0x34 => {
-            let octets_lent = Space::Octets(space);
             table_write_cases::answer(op, octets, marks, octets_lent, lent, tape, out, at)
         }
         0x36..=0x37 => cases::answer_lent(op, octets, marks, space, lent, out, at),
@@ -38,11 +43,12 @@ fn with_room(
     let op = line::operation(octets, marks);
     match op {
         0x01..=0x02 => table_read_cases::answer_with_room(op, octets, marks, room, tape, out, at),
+        0x07 => headers::answer_with_room(octets, marks, room, tape, out, at),
         _ => print::put(out, at, b'?'),
     }
 }
 
-// 52: a writer of tables with `space` octets and a tape that repeats its last record.
+// 52: a writer with `space` octets and a tape that repeats its last record.
 fn repeated(
     octets: &[u8],
     marks: &[usize],
@@ -54,6 +60,7 @@ fn repeated(
 ) -> usize {
     let op = line::operation(octets, marks);
     match op {
+        0x31 => method_write_cases::answer_repeated(op, octets, marks, space, lent, tape, out, at),
         0x33..=0x34 => {
             table_write_cases::answer_repeated(op, octets, marks, space, lent, tape, out, at)
         }
@@ -94,16 +101,22 @@ fn operation(
     let op = line::operation(octets, marks);
     match op {
         0x01..=0x02 => table_read_cases::answer(op, octets, marks, tape, out, at),
+        0x07 => headers::answer(octets, marks, tape, out, at),
+        0x20..=0x28 => reply_cases::answer(op, octets, marks, out, at),
+        0x30..=0x31 => {
+            method_write_cases::answer(op, octets, marks, Space::Enough, lent, tape, out, at)
+        }
         0x33..=0x34 => {
             table_write_cases::answer(op, octets, marks, Space::Enough, lent, tape, out, at)
         }
+        0x40 => commands::answer(octets, marks, tape, out, at),
         0x50..=0x52 => limited(op, octets, marks, lent, tape, out, at),
         _ => cases::answer(op, octets, marks, lent, out, at),
     }
 }
 
 // Answers the line that the first `n` octets of `line` are, of up to 32 fields.
-pub(crate) fn answer(
+pub fn answer(
     line: &mut [u8],
     n: usize,
     lent: &mut [u8],

@@ -1,0 +1,378 @@
+-- The loop over fields: what an octet of a layout says, a field's words stored, and one turn.
+use mathlib.Core.Path.{_≡_, refl, sym, ap, _∙_}
+use mathlib.Core.Bool.{Bool, cond}
+use mathlib.Core.List.{List, [], _∷_, _++_, map, append-nil}
+use Prim.Native.Nat.{ℕ, suc, _+_, _-_, _*_, _^_, _/_, _%_, _≤_, _<_}
+use native.Mathlib.Omega.{arith}
+use native.Mathlib.Numerals.{add-one}
+use native.Mathlib.Nat.{sub-zero, two-pow-succ, mod-eq-of-lt}
+use borrow.Author.Tests.{eqb-true, eqb-false, ne-eqb}
+use lib.Dec.{eqb}
+use lib.ListN.{length, drop, getD, drop-of-length-le}
+use lib.Arith.{digits-mod}
+use lib.Seq.{drop-cons, sets}
+use types.Run.{OneOf}
+use Rattle.types.specs.Answer.{Answer, Refusal, given, refused, andThen}
+use Rattle.types.specs.AnswerOf.{refusal}
+use Rattle.types.specs.declared.WireError.{WireError}
+use Rattle.types.specs.Lookup.{lookup}
+use Rattle.types.specs.Memory.{splice}
+use Rattle.types.proofs.Arms.{Rest, rest}
+use Rattle.types.proofs.Chain.{then-go, given-next, given-value}
+use Rattle.types.proofs.Splice.{splice-nil, splice-after, splice-sets}
+use Rattle.types.proofs.Tests.{decide, leb-yes, leb-no}
+use Rattle.tables.specs.Letters.{errata}
+use Rattle.tables.specs.Reading.{tableAt}
+use Rattle.tables.proofs.TapeLaws.{length-flatten}
+use Rattle.method.specs.Fields.{Kind, number, shortStr, bits, login, table, Field, fixed, arg, Located, Returned, Args}
+use Rattle.method.specs.Properties.{select, flagsOf}
+use Rattle.method.specs.Reading.{argAt, argTape, fixedAt, fieldsAt, returnedArg, returnedArgs, used}
+use Rattle.method.specs.Words.{width, widths, argWords, argsWords}
+use Rattle.method.specs.Layout.{kinds, fieldOf, fixedOctets}
+use Rattle.method.proofs.WordLaws.{length-words}
+use Rattle.method.proofs.Bounds.{arg-within}
+use Rattle.method_reader.specs.declared.fields.TablePlace.{TablePlace}
+use Rattle.method_reader.specs.declared.fields.ReadField.{ReadField}
+use Rattle.method_reader.specs.declared.fields.ReadField.the-variants as field
+use Rattle.method_reader.specs.declared.fields.ReadFields.{ReadFields}
+use Rattle.method_reader.specs.declared.fields.ReadFields.the-variants as fields
+use Rattle.method_reader.specs.Fields.{FieldRead, FieldsRead, fieldAt, FieldStored, tableAfter, lastTable, scanAt, FieldsStored, noTable}
+use Rattle.method_reader.specs.AnswerOf.{answerOfField, answerOfFields}
+
+-- A field by its high digit
+
+pub field-arm : (c k : ℕ) → OneOf (k ∷ []) (c / 16) → fieldOf c ≡ lookup (fixed []) (kinds (c % 16)) k
+unfolding fieldOf
+field-arm c k o = ap (lookup (fixed []) (kinds (c % 16))) o
+
+-- the arms of the arguments, the last one first
+abbrev pub arms : List (List ℕ)
+arms = (15 ∷ []) ∷ (13 ∷ []) ∷ (11 ∷ []) ∷ (5 ∷ []) ∷ (0 ∷ []) ∷ []
+
+no-kind : (c : ℕ) → Rest ((12 ∷ []) ∷ (10 ∷ []) ∷ arms) (c / 16) → fieldOf c ≡ fixed []
+unfolding fieldOf
+no-kind c q = rest (fixed []) ((12 ∷ []) ∷ (10 ∷ []) ∷ arms) (c / 16) (kinds (c % 16)) q tt
+
+-- the kinds without an arm are fixed
+pub field-fixed : (c : ℕ) → Rest arms (c / 16) → fieldOf c ≡ fixed (fixedOctets (fieldOf c))
+field-fixed c r =
+    decide (eqb (c / 16) 10) (λ y. of (field-arm c 10 (eqb-true (c / 16) 10 y)))
+    (λ n.
+    decide (eqb (c / 16) 12) (λ y. of (field-arm c 12 (eqb-true (c / 16) 12 y)))
+    (λ m. of (no-kind c ((r, eqb-false (c / 16) 10 n), eqb-false (c / 16) 12 m))))
+  where
+    of : {xs : List ℕ} → fieldOf c ≡ fixed xs → fieldOf c ≡ fixed (fixedOctets (fieldOf c))
+    of e = e ∙ ap (λ (f : Field). fixed (fixedOctets f)) (sym e)
+
+-- One field stored
+
+own-width : (k : Kind) (v : Returned k) → length (argWords k v) ≡ width (arg k)
+unfolding argsWords
+own-width k v = let l = length-words (arg k ∷ []) (v, tt) in omega (arith, rw (append-nil (argWords k v)) at l)
+
+module _ (k : Kind) (s : List ℕ) (p room j : ℕ) (before after : List ℕ) where
+  pub stored-refused : (e : WireError) → argAt errata k s p room ≡ refused (refusal e) → FieldStored (fieldAt errata (arg k) s p room) j before after (field.Refused e)
+  unfolding fieldAt
+  stored-refused e a = rw a
+
+  pub stored-given : (v : Located k) (own q : ℕ) → argAt errata k s p room ≡ given v q → own ≡ used k (returnedArg k v) → j + width (arg k) ≤ length before
+      → after ≡ sets before j (argWords k (returnedArg k v)) → FieldStored (fieldAt errata (arg k) s p room) j before after (field.Value own q)
+  unfolding fieldAt
+  stored-given v own q a o l m =
+      let w = own-width k (returnedArg k v) in
+      rw a (ap (λ (n : ℕ). given n q) o, m ∙ splice-sets (argWords k (returnedArg k v)) before j (omega (arith, w)))
+
+pub stored-fixed : (xs s : List ℕ) (p room j : ℕ) (words : List ℕ) (r : ReadField)
+    → answerOfField r ≡ andThen (fixedAt xs s p) (λ x q. given 0 q) → FieldStored (fieldAt errata (fixed xs) s p room) j words words r
+unfolding fieldAt
+stored-fixed xs s p room j words r e = by (fixedAt xs s p) e
+  where
+    by : (a : Answer Unit) → answerOfField r ≡ andThen a (λ x q. given 0 q)
+        → FieldStored (andThen a (λ x q. given (record { words = []; records = 0 }) q)) j words words r
+    by (given x q) h = (h, sym (splice-nil j words))
+    by (refused q) h = h
+
+-- only a table asks for room
+abbrev pub Roomless : Kind → Type 0
+Roomless (number k) = Unit {0}
+Roomless shortStr = Unit {0}
+Roomless (bits places) = Unit {0}
+Roomless login = Unit {0}
+Roomless table = ⊥
+
+pub roomless : (k : Kind) (s : List ℕ) (p room : ℕ) → Roomless k → fieldAt errata (arg k) s p 0 ≡ fieldAt errata (arg k) s p room
+unfolding fieldAt argAt
+roomless (number k) s p room h = refl
+roomless shortStr s p room h = refl
+roomless (bits places) s p room h = refl
+roomless login s p room h = refl
+roomless table s p room h = absurd h
+
+-- One turn: a field, then the fields left
+
+-- the last table that has records, behind a field at p with so many
+abbrev placeAfter : ℕ → ℕ → TablePlace → TablePlace
+placeAfter own p last = cond (eqb own 0) last (record { records = own; start = p })
+
+own-tape : (k : Kind) (v : Located k) → used k (returnedArg k v) ≡ length (argTape k v)
+own-tape (number k) v = refl
+own-tape shortStr v = refl
+own-tape (bits places) v = refl
+own-tape login v = refl
+own-tape table v = sym (length-flatten (v .entries))
+
+own-table : (k : Kind) (s : List ℕ) (p room : ℕ) (v : Located k) (q : ℕ) (last : TablePlace) → argAt errata k s p room ≡ given v q
+    → tableAfter k v last ≡ placeAfter (used k (returnedArg k v)) p last
+unfolding argAt
+own-table (number k) s p room v q last e = refl
+own-table shortStr s p room v q last e = refl
+own-table (bits places) s p room v q last e = refl
+own-table login s p room v q last e = refl
+own-table table s p room v q last e =
+    then-go (tableAt errata s p room) _ v q e
+    (λ t m e1 h.
+    let w = given-value (record { start = p; entries = t }) v m q h in
+    rw (← w))
+
+-- what was answered, by what was stored
+module _ (j : ℕ) (before stored : List ℕ) (r : ReadField) where
+  answer-refused : (a : Answer FieldRead) (e : Refusal) → answerOfField r ≡ refused e → FieldStored a j before stored r → a ≡ refused e
+  answer-refused (given x n) e h g = let z : _≡_ {A = ℕ} 0 1 = cc in absurd (omega arith)
+  answer-refused (refused x) e h g = ap (λ (z : Refusal). refused z) (cc)
+
+  answer-given : {G : Type 0} (a : Answer FieldRead) (own q : ℕ) → answerOfField r ≡ given own q → FieldStored a j before stored r
+      → ((x : FieldRead) → a ≡ given x q → x .records ≡ own → stored ≡ splice j (x .words) before → G) → G
+  answer-given (given x n) own q h g go =
+      let e : _≡_ {A = Answer ℕ} (given (x .records) n) (given own q) = sym (g .0) ∙ h in
+      go x (ap (given x) (given-next (x .records) own n q e)) (given-value (x .records) own n q e) (g .1)
+  answer-given (refused x) own q h g go = let z : _≡_ {A = ℕ} 0 1 = cc in absurd (omega arith)
+
+-- words before those of the fields behind
+abbrev behind : List ℕ → Answer FieldsRead → Answer FieldsRead
+behind ws a = andThen a (λ y n. given (record { words = ws ++ y .words; table = y .table }) n)
+
+stored-behind : (ws : List ℕ) (a : Answer FieldsRead) (j : ℕ) (before after : List ℕ) (r : ReadFields) → j + length ws ≤ length before
+    → FieldsStored a (j + length ws) (splice j ws before) after r → FieldsStored (behind ws a) j before after r
+stored-behind ws (given y n) j before after r l h = (h .0, h .1 ∙ splice-after j ws (y .words) before l)
+stored-behind ws (refused e) j before after r l h = h
+
+then-stop : {A B : Type 0} (a : Answer A) (g : A → B) (e : Refusal) → andThen a (λ x q. given (g x) q) ≡ refused e → a ≡ refused e
+then-stop (given x q) g e h = let z : _≡_ {A = ℕ} 0 1 = cc in absurd (omega arith)
+then-stop (refused x) g e h = ap refused (let z : x ≡ e = cc in z)
+
+module _ (s : List ℕ) (p room : ℕ) where
+  -- its records are within the room, and its words are as many as its kind says
+  field-fits : (f : Field) (x : FieldRead) (q : ℕ) → fieldAt errata f s p room ≡ given x q → (x .records ≤ room) × (length (x .words) ≡ width f)
+  unfolding fieldAt
+  field-fits (fixed xs) x q h =
+      then-go (fixedAt xs s p) _ x q h
+      (λ u m e1 h1.
+      let w = given-value (record { words = []; records = 0 }) x m q h1 in
+      rw (← w) (omega arith, refl))
+  field-fits (arg k) x q h =
+      then-go (argAt errata k s p room) _ x q h
+      (λ v m e1 h1.
+      let y : FieldRead = record { words = argWords k (returnedArg k v); records = used k (returnedArg k v) } in
+      let w = given-value y x m q h1 in
+      let a = arg-within errata k s p room v m e1 in
+      rw (← w) (omega (arith, own-tape k v, a .fits), own-width k (returnedArg k v)))
+
+module _ (fs : List Field) (s : List ℕ) (p room : ℕ) (last : TablePlace) where
+  scan-refused : (f : Field) (e : Refusal) → fieldAt errata f s p room ≡ refused e → scanAt errata (f ∷ fs) s p room last ≡ refused e
+  unfolding fieldAt scanAt fieldsAt
+  scan-refused (fixed xs) e h = rw (then-stop (fixedAt xs s p) _ e h)
+  scan-refused (arg k) e h = rw (then-stop (argAt errata k s p room) _ e h)
+
+  scan-given : (f : Field) (x : FieldRead) (q : ℕ) → fieldAt errata f s p room ≡ given x q
+      → scanAt errata (f ∷ fs) s p room last ≡ behind (x .words) (scanAt errata fs s q (room - x .records) (placeAfter (x .records) p last))
+  unfolding fieldAt scanAt fieldsAt argsWords returnedArgs lastTable
+  scan-given (fixed xs) x q h =
+      then-go (fixedAt xs s p) _ x q h
+      (λ u m e1 h1.
+      let w = given-value (record { words = []; records = 0 }) x m q h1 in
+      let n = given-next (record { words = []; records = 0 }) x m q h1 in
+      rw (e1, ← w, ← n, sub-zero room) (none (fieldsAt errata fs s m room)))
+    where
+      none : (b : Answer (Args Located fs))
+          → andThen b (λ vs q. given (record { words = argsWords fs (returnedArgs fs vs); table = lastTable fs vs last }) q)
+          ≡ behind [] (andThen b (λ vs q. given (record { words = argsWords fs (returnedArgs fs vs); table = lastTable fs vs last }) q))
+      none (given vs n) = refl
+      none (refused e) = refl
+  scan-given (arg k) x q h =
+      then-go (argAt errata k s p room) _ x q h
+      (λ v m e1 h1.
+      let y : FieldRead = record { words = argWords k (returnedArg k v); records = used k (returnedArg k v) } in
+      let w = given-value y x m q h1 in
+      let n = given-next y x m q h1 in
+      rw (e1, ← w, ← n, ← (own-table k s p room v m last e1), own-tape k v) (one v (fieldsAt errata fs s m (room - length (argTape k v)))))
+    where
+      one : (v : Located k) (b : Answer (Args Located fs))
+          → andThen (andThen b (λ vs r. given (v, vs) r))
+          (λ (vs : Args Located (arg k ∷ fs)) q. given (record { words = argsWords (arg k ∷ fs) (returnedArgs (arg k ∷ fs) vs); table = lastTable (arg k ∷ fs) vs last }) q)
+          ≡ behind (argWords k (returnedArg k v)) (andThen b (λ vs q. given (record { words = argsWords fs (returnedArgs fs vs); table = lastTable fs vs (tableAfter k v last) }) q))
+      one v (given vs n) = refl
+      one v (refused e) = refl
+
+  turn-given : (f : Field) (x : FieldRead) (q j : ℕ) (before stored : List ℕ) → fieldAt errata f s p room ≡ given x q → stored ≡ splice j (x .words) before
+      → j + width f ≤ length before → (after : List ℕ) (r : ReadFields)
+      → FieldsStored (scanAt errata fs s q (room - x .records) (placeAfter (x .records) p last)) (j + width f) stored after r
+      → FieldsStored (scanAt errata (f ∷ fs) s p room last) j before after r
+  turn-given f x q j before stored e n l after r k =
+      let wide = (field-fits s p room f x q e) .1 in
+      rw (scan-given f x q e)
+      (stored-behind (x .words) (scanAt errata fs s q (room - x .records) (placeAfter (x .records) p last)) j before after r (omega (arith, wide)) (rw (wide, ← n) k))
+
+-- The fields left: those whose flag is set, of w flags
+
+flag-set : (w flags : ℕ) (f : Field) (fs : List Field) → 2 ^ w ≤ flags → flags < 2 ^ suc w → select (flagsOf (suc w) flags) (f ∷ fs) ≡ f ∷ select (flagsOf w (flags - 2 ^ w)) fs
+unfolding flagsOf select
+flag-set w flags f fs h l =
+    let e : flags ≡ 1 * 2 ^ w + (flags - 2 ^ w) = omega arith in
+    let m : flags % 2 ^ w ≡ flags - 2 ^ w = ap (λ (n : ℕ). n % 2 ^ w) e ∙ digits-mod 1 (omega (arith, two-pow-succ w)) in
+    rw (leb-yes (2 ^ w) flags h, m)
+
+flag-clear : (w flags : ℕ) (f : Field) (fs : List Field) → flags < 2 ^ w → select (flagsOf (suc w) flags) (f ∷ fs) ≡ select (flagsOf w flags) fs
+unfolding flagsOf select
+flag-clear w flags f fs h = rw (leb-no (2 ^ w) flags h, mod-eq-of-lt h)
+
+-- those of a layout's octets from the ith on
+abbrev pub chosen : List ℕ → ℕ → ℕ → ℕ → List Field
+chosen layout i w flags = select (flagsOf w flags) (map fieldOf (drop i layout))
+
+chosen-more : (layout : List ℕ) (i w flags : ℕ) → i < length layout → chosen layout i w flags ≡ select (flagsOf w flags) (fieldOf (getD layout i 0) ∷ map fieldOf (drop (i + 1) layout))
+chosen-more layout i w flags h = rw (add-one i) (ap (λ (l : List ℕ). select (flagsOf w flags) (map fieldOf l)) (drop-cons layout i 0 h))
+
+chosen-none : (layout : List ℕ) (i w flags : ℕ) → length layout ≤ i → chosen layout i w flags ≡ []
+unfolding select
+chosen-none layout i w flags h = rw (drop-of-length-le layout h) (none (flagsOf w flags))
+  where
+    none : (ps : List Bool) → select ps [] ≡ []
+    none [] = refl
+    none (p ∷ ps) = refl
+
+abbrev pub AllStored : List ℕ → ℕ → List ℕ → ℕ → ℕ → List ℕ → List ℕ → ReadFields → Type 0
+AllStored layout present s from room before after r = FieldsStored (scanAt errata (select (flagsOf 13 present) (map fieldOf layout)) s from room noTable) 0 before after r
+
+-- What is left, done, does the whole
+pub record Going (layout : List ℕ) (present : ℕ) (s : List ℕ) (from room : ℕ) (words₀ words : List ℕ) (flags weight records start left at j i : ℕ) : Type 0 where
+  -- flags left, of thirteen
+  pub w : ℕ
+  pub turns : w + i ≡ 13
+  pub weighs : weight ≡ 2 ^ w / 2
+  pub small : flags < 2 ^ w
+  pub fits : j + widths (chosen layout i w flags) ≤ length words
+  pub same : length words ≡ length words₀
+  pub rest : (after : List ℕ) (r : ReadFields)
+      → FieldsStored (scanAt errata (chosen layout i w flags) s at left (record { records = records; start = start })) j words after r
+      → AllStored layout present s from room words₀ after r
+
+pub going : (layout : List ℕ) (present : ℕ) (s : List ℕ) (from room : ℕ) (words : List ℕ) → present < 8192
+    → widths (select (flagsOf 13 present) (map fieldOf layout)) ≤ length words → Going layout present s from room words words present 4096 0 0 room from 0 0
+going layout present s from room words h l =
+    record { w = 13; turns = refl; weighs = refl; small = h; fits = omega arith; same = refl; rest = λ after r g. g }
+
+module _ {layout : List ℕ} {present : ℕ} {s : List ℕ} {from room : ℕ} {words₀ words : List ℕ} {flags weight records start left at j i : ℕ}
+    (go : Going layout present s from room words₀ words flags weight records start left at j i) where
+  abbrev last : TablePlace
+  last = record { records = records; start = start }
+
+  pub at-end : length layout ≤ i → AllStored layout present s from room words₀ words (fields.Value last at)
+  unfolding scanAt fieldsAt argsWords lastTable
+  at-end h = go .rest words (fields.Value last at) (rw (chosen-none layout i (go .w) flags h) (refl, sym (splice-nil j words)))
+
+  module _ (h : i < length layout) (l : length layout ≤ 13) where
+    abbrev here : Field
+    here = fieldOf (getD layout i 0)
+
+    abbrev later : List Field
+    later = map fieldOf (drop (i + 1) layout)
+
+    -- one flag less
+    abbrev less : ℕ
+    less = go .w - 1
+
+    one-less : go .w ≡ suc less
+    one-less = omega (arith, go .turns)
+
+    weight-less : weight ≡ 2 ^ less
+    weight-less =
+        let a : weight ≡ 2 ^ suc less / 2 = rw one-less at (go .weighs) in
+        omega (arith, two-pow-succ less)
+
+    small-less : flags < 2 ^ suc less
+    small-less = rw one-less at (go .small)
+
+    halved : weight / 2 ≡ 2 ^ less / 2
+    halved = ap (λ (n : ℕ). n / 2) weight-less
+
+    opened : chosen layout i (go .w) flags ≡ select (flagsOf (suc less) flags) (here ∷ later)
+    opened = chosen-more layout i (go .w) flags h ∙ ap (λ (n : ℕ). select (flagsOf n flags) (here ∷ later)) one-less
+
+    set-chosen : weight ≤ flags → chosen layout i (go .w) flags ≡ here ∷ chosen layout (i + 1) less (flags - weight)
+    set-chosen a = rw weight-less (opened ∙ flag-set less flags here later (omega (arith, weight-less)) small-less)
+
+    clear-chosen : flags < weight → chosen layout i (go .w) flags ≡ chosen layout (i + 1) less flags
+    clear-chosen a = opened ∙ flag-clear less flags here later (omega (arith, weight-less))
+
+    -- a field that is absent
+    pub turn-absent : flags < weight → Going layout present s from room words₀ words flags (weight / 2) records start left at j (i + 1)
+    turn-absent a =
+        record {
+          w = less;
+          turns = omega (arith, go .turns);
+          weighs = halved;
+          small = omega (arith, weight-less);
+          fits = rw (clear-chosen a) at (go .fits);
+          same = go .same;
+          rest = λ after r g. go .rest after r (rw (clear-chosen a) g);
+        }
+
+    module _ (a : weight ≤ flags) where
+      abbrev behindIt : List Field
+      behindIt = chosen layout (i + 1) less (flags - weight)
+
+      wide : j + (width here + widths behindIt) ≤ length words
+      wide = rw (set-chosen a) at (go .fits)
+
+      pub words-here : j + width here ≤ length words
+      words-here = omega (arith, wide)
+
+      module _ (stored : List ℕ) (q : ReadField) (g : FieldStored (fieldAt errata here s at left) j words stored q) where
+        pub turn-refused : (e : Refusal) → answerOfField q ≡ refused e → (after : List ℕ) (r : ReadFields) → answerOfFields r ≡ refused e
+            → AllStored layout present s from room words₀ after r
+        turn-refused e b after r k =
+            let f = answer-refused j words stored q (fieldAt errata here s at left) e b g in
+            go .rest after r (rw (set-chosen a, scan-refused behindIt s at left last here e f) k)
+
+        module _ (own next : ℕ) (b : answerOfField q ≡ given own next) where
+          pub own-fits : own ≤ left
+          own-fits =
+              answer-given j words stored q (fieldAt errata here s at left) own next b g
+              (λ x e m n. rw m at ((field-fits s at left here x next e) .0))
+
+          present-going : (records' start' left' : ℕ) → length stored ≡ length words → record { records = records'; start = start' } ≡ placeAfter own at last
+              → left' ≡ left - own → Going layout present s from room words₀ stored (flags - weight) (weight / 2) records' start' left' next (j + width here) (i + 1)
+          present-going records' start' left' same place room' =
+              answer-given j words stored q (fieldAt errata here s at left) own next b g
+              (λ x e m n.
+              record {
+                w = less;
+                turns = omega (arith, go .turns);
+                weighs = halved;
+                small = omega (arith, weight-less, small-less, two-pow-succ less);
+                fits = omega (arith, wide);
+                same = same ∙ go .same;
+                rest =
+                    λ after r k.
+                    go .rest after r
+                    (rw (set-chosen a) (turn-given behindIt s at left last here x next j words stored e n words-here after r (rw (m, ← place, ← room') k)));
+              })
+
+          -- a field without records, and a table that has some
+          pub turn-plain : own ≡ 0 → length stored ≡ length words
+              → Going layout present s from room words₀ stored (flags - weight) (weight / 2) records start left next (j + width here) (i + 1)
+          turn-plain z same = present-going records start left same (rw z) (omega arith)
+
+          pub turn-table : (own ≡ 0 → ⊥) → length stored ≡ length words
+              → Going layout present s from room words₀ stored (flags - weight) (weight / 2) own at (left - own) next (j + width here) (i + 1)
+          turn-table z same = present-going own at (left - own) same (rw (ne-eqb own 0 z)) refl

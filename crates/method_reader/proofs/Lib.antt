@@ -1,0 +1,6 @@
+-- Laws of the readers of commands and content headers.
+pub mod ReaderLaws
+pub mod FieldLaws
+pub mod PropertyLaws
+pub mod CommandLaws
+pub mod LoginLaws

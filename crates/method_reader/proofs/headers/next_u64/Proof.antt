@@ -1,0 +1,21 @@
+-- `method_reader::headers::next_u64` meets its contract. Assumes nothing.
+use borrow.Author.Needs.{needs}
+use Rattle.method_reader.specs.Properties.{u64In}
+use Rattle.method_reader.proofs.PropertyLaws.{next-there, next-missing, word-kept}
+use Rattle.method_reader.proofs.headers.next_u64.Statement.{statement}
+use Rattle.method_reader.proofs.headers.next_u64.Tie as tie
+
+mul-t7 : tie.Need-mul-t7
+mul-t7 c = search needs
+
+array-read-t10 : tie.Need-array-read-t10
+array-read-t10 c = search needs
+
+returns : tie.Need-returns
+returns c = let a = c .before .before .args in next-there u64In (a .t1) (a .rest) (a .weight) _ (c .if1 .taken) (word-kept 22 (a .t1) _ (a .rest .j) (c .before .before .good .0))
+
+returns-2 : tie.Need-returns-2
+returns-2 c = let a = c .before .before .args in next-missing u64In (a .t1) (a .rest) (a .weight) (c .if1 .left)
+
+pub next-u64-spec : {M : Type 1} → statement M
+next-u64-spec = tie.close (tie.spec mul-t7 array-read-t10 returns returns-2)

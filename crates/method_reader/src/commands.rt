@@ -1,0 +1,195 @@
+// The command reader: class and method, the fields of their layout, no octet more.
+ghost use mathlib.Core.Path.{_≡_};
+ghost use mathlib.Core.Bool.{true};
+ghost use mathlib.Core.Option.{some};
+ghost use Prim.Native.Nat.{_+_, _≤_};
+ghost use lib.ListN.{length, getD};
+ghost use Rattle.types.specs.Memory.{outcome};
+ghost use Rattle.tables.specs.Letters.{errata};
+ghost use Rattle.method.specs.Commands.{known, fieldsOf, call};
+ghost use Rattle.method.specs.Reading.{readCommand};
+ghost use Rattle.method.specs.Words.{argsFrom};
+ghost use Rattle.method.specs.Layout.{layoutFields};
+ghost use Rattle.method.specs.AnswerOf.{commandOf};
+ghost use Rattle.method_reader.specs.Fields.{cutArgs, readArguments};
+ghost use Rattle.method_reader.specs.AnswerOf.{answerOfCommand};
+use crate::ReadCommand;
+use crate::fields::ReadFields;
+use crate::fields::fill_table;
+use crate::fields::read_fields;
+use method::Command;
+use method::layout::Layout;
+use method::layout::layout_of;
+use table_reader::room;
+use types::Cursor;
+use types::ReadU16;
+use types::Span;
+use types::WireError;
+
+// Every field is present.
+const ALL: u16 = 0x1FFF;
+
+fn span_at(words: [u64; 8], j: usize) -> Span
+    requires { ⌜ j + 2 ≤ 8 ⌝ }
+    ensures { λ r. ⌜ r ≡ record { start = getD words j 0; len = getD words (j + 1) 0 } ⌝ }
+{
+    Span {
+        start: words[j] as usize,
+        len: words[j + 1] as usize,
+    }
+}
+
+// The command of a pair that is known, from its words.
+fn command_of(class: u16, method: u16, words: [u64; 8]) -> Command
+    requires { ⌜ known class method ≡ true ⌝ }
+    ensures { λ r. ⌜ commandOf r ≡ call class method (cutArgs (fieldsOf class method) (argsFrom (fieldsOf class method) words)) ⌝ }
+{
+    match class as u64 * 100_000 + method as u64 {
+        10_00011 => Command::ConnectionStartOk {
+            user: span_at(words, 0),
+            password: span_at(words, 2),
+        },
+        10_00031 => Command::ConnectionTuneOk {
+            channel_max: (words[0] % 0x1_0000) as u16,
+            frame_max: (words[1] % 0x1_0000_0000) as u32,
+            heartbeat: (words[2] % 0x1_0000) as u16,
+        },
+        10_00040 => Command::ConnectionOpen {
+            vhost: span_at(words, 0),
+        },
+        20_00010 => Command::ChannelOpen,
+        20_00020 => Command::ChannelFlow {
+            active: words[0] % 2 == 1,
+        },
+        20_00021 => Command::ChannelFlowOk {
+            active: words[0] % 2 == 1,
+        },
+        20_00040 => Command::ChannelClose {
+            reply_code: (words[0] % 0x1_0000) as u16,
+            reply_text: span_at(words, 1),
+        },
+        20_00041 => Command::ChannelCloseOk,
+        40_00010 => Command::ExchangeDeclare {
+            name: span_at(words, 0),
+            kind: span_at(words, 2),
+            durable: words[4] % 2 == 1,
+        },
+        40_00020 => Command::ExchangeDelete {
+            name: span_at(words, 0),
+            if_unused: words[2] % 2 == 1,
+        },
+        50_00010 => Command::QueueDeclare {
+            queue: span_at(words, 0),
+            durable: words[2] % 2 == 1,
+        },
+        50_00020 => Command::QueueBind {
+            queue: span_at(words, 0),
+            exchange: span_at(words, 2),
+            routing_key: span_at(words, 4),
+        },
+        50_00050 => Command::QueueUnbind {
+            queue: span_at(words, 0),
+            exchange: span_at(words, 2),
+            routing_key: span_at(words, 4),
+        },
+        50_00030 => Command::QueuePurge {
+            queue: span_at(words, 0),
+        },
+        50_00040 => Command::QueueDelete {
+            queue: span_at(words, 0),
+        },
+        60_00010 => Command::BasicQos {
+            prefetch_size: (words[0] % 0x1_0000_0000) as u32,
+            prefetch_count: (words[1] % 0x1_0000) as u16,
+            global: words[2] % 2 == 1,
+        },
+        60_00020 => Command::BasicConsume {
+            queue: span_at(words, 0),
+            consumer_tag: span_at(words, 2),
+            no_ack: words[4] % 2 == 1,
+        },
+        60_00030 => Command::BasicCancel {
+            consumer_tag: span_at(words, 0),
+            no_wait: words[2] % 2 == 1,
+        },
+        60_00040 => Command::BasicPublish {
+            exchange: span_at(words, 0),
+            routing_key: span_at(words, 2),
+        },
+        60_00070 => Command::BasicGet {
+            queue: span_at(words, 0),
+            no_ack: words[2] % 2 == 1,
+        },
+        60_00080 => Command::BasicAck {
+            delivery_tag: words[0],
+            multiple: words[1] % 2 == 1,
+        },
+        60_00090 => Command::BasicReject {
+            delivery_tag: words[0],
+            requeue: words[1] % 2 == 1,
+        },
+        60_00120 => Command::BasicNack {
+            delivery_tag: words[0],
+            multiple: words[1] % 2 == 1,
+            requeue: words[1] / 2 % 2 == 1,
+        },
+        85_00010 => Command::ConfirmSelect {
+            no_wait: words[0] % 2 == 1,
+        },
+        90_00010 => Command::TxSelect,
+        // No other pair is known.
+        _ => Command::TxSelect,
+    }
+}
+
+// What follows a class and method that are known, up to the end of the octets.
+fn read_arguments(
+    class: u16,
+    method: u16,
+    layout: Layout,
+    s: &[u8],
+    at: usize,
+    tape: &mut [u64],
+    used: usize,
+) -> ReadCommand
+    requires { ⌜ (at ≤ length (now s)) × (known class method ≡ true) × (layoutFields layout ≡ some (fieldsOf class method)) × (layout .count ≤ 8) ⌝ }
+    ensures { λ r. ⌜ outcome (answerOfCommand r) (now (tape .exit)) ≡ readArguments errata class method (now (s .entry)) at used (now (tape .entry)) ⌝ }
+{
+    let fields = layout.fields;
+    let count = layout.count;
+    let mut words = [0u64; 8];
+    match read_fields(&fields[..count], ALL, s, at, room(tape, used), &mut words) {
+        ReadFields::Refused(e) => ReadCommand::Refused(e),
+        ReadFields::Value(table, next) => {
+            if next < s.len() {
+                return ReadCommand::Refused(WireError::NotWritten(next));
+            }
+            let records = table.records;
+            fill_table(s, table, tape, used);
+            ReadCommand::Value(
+                command_of(class, method, words),
+                records,
+                Cursor { at: next },
+            )
+        }
+    }
+}
+
+// Reads a command that ends with the octets, and fills the records behind the used ones if it has a table.
+pub fn read_command(s: &[u8], at: Cursor, tape: &mut [u64], used: usize) -> ReadCommand
+    ensures { λ r. ⌜ outcome (answerOfCommand r) (now (tape .exit)) ≡ readCommand errata (now (s .entry)) (at .at) used (now (tape .entry)) ⌝ }
+{
+    match at.u16(s) {
+        ReadU16::Refused(e) => ReadCommand::Refused(e),
+        ReadU16::Value(class, after) => match after.u16(s) {
+            ReadU16::Refused(e) => ReadCommand::Refused(e),
+            ReadU16::Value(method, next) => {
+                let layout = layout_of(class, method);
+                if !layout.known {
+                    return ReadCommand::Refused(WireError::UnknownMethod(class, method));
+                }
+                read_arguments(class, method, layout, s, next.at, tape, used)
+            }
+        },
+    }
+}

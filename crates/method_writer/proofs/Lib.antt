@@ -1,0 +1,6 @@
+-- Laws of the writers of commands and content headers.
+pub mod FieldCodes
+pub mod SizeLaws
+pub mod EmitLaws
+pub mod PropertyLaws
+pub mod WriteLaws

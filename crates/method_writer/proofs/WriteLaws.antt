@@ -1,0 +1,243 @@
+-- The two passes together: from what the first answers of some fields to the answer and the output at exit, with any octets before them.
+use mathlib.Core.Path.{_≡_, refl, sym, ap, _∙_}
+use mathlib.Core.Bool.{Bool, true, false, not, cond}
+use mathlib.Core.Option.{Option, none, some}
+use mathlib.Core.List.{List, [], _∷_, _++_, map, append-assoc}
+use Prim.Native.Nat.{ℕ, zero, suc, _+_, _-_, _*_, _^_, _%_, _≤_, _<_}
+use native.Mathlib.Nat.{two-pow-succ, mod-lt, mod-eq-of-lt, mod-eq-sub-mod}
+use native.Mathlib.Omega.{arith}
+use lib.ListN.{length, take, drop, length-append}
+use lib.Dec.{leb}
+use lib.Pow.{pow-pos}
+use Rattle.types.specs.Answer as answer
+use Rattle.types.specs.Answer.{Refusal, Answer, given, tooLong, noSpace}
+use Rattle.types.specs.Octets as number
+use Rattle.types.specs.Judgement.{test, orElse}
+use Rattle.types.specs.Memory.{splice, Outcome, outcome}
+use Rattle.types.proofs.Tests.{yes-leb, no-leb, decide}
+use Rattle.types.proofs.Splice.{splice-after}
+use Rattle.writers.specs.Writers.{writeAt, writeUint}
+use Rattle.writers.proofs.WriterLaws.{write-full, write-given}
+use Rattle.tables.specs.Letters.{Letters, errata}
+use Rattle.tables.specs.Writing.{body}
+use Rattle.table_writer.specs.Emitting.{nextOr, Emitted}
+use Rattle.table_writer.proofs.EmitLaws.{number-emitted, emitted-length, emitted-after}
+use Rattle.method.specs.Fields.{Kind, number, shortStr, bits, login, table, Field, fixed, arg, Meaning, Returned, Args}
+use Rattle.method.specs.Commands.{commands, fieldsIn, known, fieldsOf, Command}
+use Rattle.method.specs.Properties.{properties, select, flagsNumber, flagsOf, Header}
+use Rattle.method.specs.Writing.{loginText, commandOctets, headerOctets, fieldOctets, judgeArgLength, judgeLengths}
+use Rattle.method.specs.Pooled.{judgePooled, refusalPooled, writeCommandPooled, writeHeaderPooled}
+use Rattle.method.specs.Words.{width, widths, argsFrom, commandFrom, headerFrom}
+use Rattle.method.specs.Layout.{fieldOf, layoutFields}
+use Rattle.method.specs.declared.layout.Layout.{Layout}
+use Rattle.method.proofs.LayoutLaws.{known-fields, command-length, command-widths, select-all, property-widths}
+use Rattle.method_writer.specs.Sizes.{Size, octets, long, refused, sized, argsMeaning, fieldSize, fieldsSize, octetsOfAll}
+use Rattle.method_writer.specs.Emitting.{Ready}
+use Rattle.method_writer.proofs.SizeLaws.{sized-octets, both, fields-size, no-fields-size, size-small}
+
+-- A length that is too great is refused by one number
+
+tested : (b : Bool) (r : Refusal) → test b tooLong none ≡ some r → r ≡ tooLong
+tested true r e = let z : _≡_ {A = ℕ} 0 1 = cc in absurd (omega arith)
+tested false r e = cc
+
+arg-long : (letters : Letters) (k : Kind) (v : Meaning k) (r : Refusal) → judgeArgLength letters k v ≡ some r → r ≡ tooLong
+arg-long letters (number n) v r e = let z : _≡_ {A = ℕ} 0 1 = cc in absurd (omega arith)
+arg-long letters shortStr v r e = let z : _≡_ {A = ℕ} 0 1 = cc in absurd (omega arith)
+arg-long letters (bits places) v r e = let z : _≡_ {A = ℕ} 0 1 = cc in absurd (omega arith)
+arg-long letters login v r e = tested (leb (length (loginText v)) 4294967295) r e
+arg-long letters table v r e = tested (leb (length (body letters true v)) 4294967295) r e
+
+lengths-long : (letters : Letters) (fs : List Field) (vs : Args Meaning fs) (r : Refusal) → judgeLengths letters fs vs ≡ some r → r ≡ tooLong
+unfolding judgeLengths
+lengths-long letters [] vs r e = let z : _≡_ {A = ℕ} 0 1 = cc in absurd (omega arith)
+lengths-long letters (fixed xs ∷ fs) vs r e = lengths-long letters fs vs r e
+lengths-long letters (arg k ∷ fs) vs r e = first (judgeArgLength letters k (vs .0)) refl e (λ h. lengths-long letters fs (vs .1) r h)
+  where
+    first : (o : Option Refusal) → judgeArgLength letters k (vs .0) ≡ o → orElse o (judgeLengths letters fs (vs .1)) ≡ some r
+        → (judgeLengths letters fs (vs .1) ≡ some r → r ≡ tooLong) → r ≡ tooLong
+    first none a h later = later h
+    first (some q) a h later = let same : q ≡ r = cc in sym same ∙ arg-long letters k (vs .0) q a
+
+-- A number behind what is written
+pub number-after : (k n : ℕ) {xs : List ℕ} {at m r : ℕ} {out b c : List ℕ} {w : Answer Unit} → at + (length xs + k) ≤ length out → Emitted xs at out b m → outcome w c ≡ writeUint k n m b
+    → r ≡ nextOr m w → Emitted (xs ++ number.octets k n) at out c r
+number-after k n h p e q =
+    emitted-after (omega arith) p (number-emitted k n (omega (arith, p .next, emitted-length (omega arith) p)) e q)
+
+-- Some fields behind the octets of a head
+
+module _ (letters : Letters) (pool tape : List ℕ) (fs : List Field) (ws : List ℕ) where
+  abbrev pub fieldsHere : List ℕ
+  fieldsHere = octetsOfAll letters pool tape fs ws
+
+  abbrev judged : Option Refusal
+  judged = judgePooled letters pool tape fs (argsFrom fs ws)
+
+  abbrev lengths : Option Refusal
+  lengths = judgeLengths letters fs (argsMeaning letters pool tape fs ws)
+
+  module _ (head : List ℕ) (at : ℕ) (out : List ℕ) where
+    abbrev pub behind : Outcome Unit
+    behind = writeAt (refusalPooled letters pool tape fs (argsFrom fs ws)) (head ++ fieldsHere) at out
+
+    pub behind-refused : (r : Refusal) → refused r ≡ fieldsSize letters pool tape fs ws → outcome (answer.refused r) out ≡ behind
+    unfolding fieldsSize octetsOfAll writeAt
+    behind-refused r e = go judged lengths e
+      where
+        go : (a l : Option Refusal) → refused r ≡ sized a l (length fieldsHere) → outcome (answer.refused r) out ≡ writeAt (orElse a l) (head ++ fieldsHere) at out
+        go (some q) l h = let same : r ≡ q = cc in ap (λ (x : Refusal). outcome (answer.refused x) out) same
+        go none (some q) h = let z : _≡_ {A = ℕ} 0 1 = cc in absurd (omega arith)
+        go none none h = let z : _≡_ {A = ℕ} 0 1 = cc in absurd (omega arith)
+
+    pub behind-long : long ≡ fieldsSize letters pool tape fs ws → outcome (answer.refused tooLong) out ≡ behind
+    unfolding fieldsSize octetsOfAll writeAt
+    behind-long e = go judged lengths refl e
+      where
+        go : (a l : Option Refusal) → lengths ≡ l → long ≡ sized a l (length fieldsHere) → outcome (answer.refused tooLong) out ≡ writeAt (orElse a l) (head ++ fieldsHere) at out
+        go (some q) l s h = let z : _≡_ {A = ℕ} 0 1 = cc in absurd (omega arith)
+        go none (some q) s h = ap (λ (x : Refusal). outcome (answer.refused x) out) (sym (lengths-long letters fs (argsMeaning letters pool tape fs ws) q s))
+        go none none s h = let z : _≡_ {A = ℕ} 0 1 = cc in absurd (omega arith)
+
+    module _ (n : ℕ) (e : octets n ≡ fieldsSize letters pool tape fs ws) where
+      passes : (judged ≡ none) × (lengths ≡ none) × (n ≡ length fieldsHere)
+      unfolding fieldsSize octetsOfAll
+      passes = sized-octets judged lengths (length fieldsHere) n e
+
+      whole-length : length (head ++ fieldsHere) ≡ length head + n
+      whole-length = length-append head fieldsHere ∙ ap (λ (k : ℕ). length head + k) (sym (passes .2))
+
+      accepted : behind ≡ writeAt none (head ++ fieldsHere) at out
+      accepted = ap (λ (a : Option Refusal). writeAt (orElse a lengths) (head ++ fieldsHere) at out) (passes .0) ∙ ap (λ (l : Option Refusal). writeAt l (head ++ fieldsHere) at out) (passes .1)
+
+      pub behind-full : length out < at + (length head + n) → outcome (answer.refused noSpace) out ≡ behind
+      behind-full h = sym (accepted ∙ write-full (head ++ fieldsHere) at out (omega (arith, whole-length)))
+
+      pub behind-ready : (start : ℕ) (mid : List ℕ) → start + n ≤ length mid → Ready (fieldsSize letters pool tape fs ws) start mid
+      behind-ready start mid h = rw (← e) h
+
+      pub behind-written : {start : ℕ} {mid after : List ℕ} → at + (length head + n) ≤ length out → Emitted head at out mid start → after ≡ splice start fieldsHere mid
+          → outcome (given tt (start + n)) after ≡ behind
+      behind-written {start} {mid} {after} h p m =
+          let next : start + n ≡ at + length (head ++ fieldsHere) = omega (arith, p .next, whole-length) in
+          let memory : after ≡ splice at (head ++ fieldsHere) out =
+          m ∙ ap (λ (i : ℕ). splice i fieldsHere mid) (p .next) ∙ ap (splice (at + length head) fieldsHere) (p .memory) ∙ splice-after at head fieldsHere out (omega arith) in
+          ap (λ (k : ℕ). outcome (given tt k) after) next
+          ∙ ap (outcome (given tt (at + length (head ++ fieldsHere)))) memory
+          ∙ sym (accepted ∙ write-given (head ++ fieldsHere) at out (omega (arith, whole-length)))
+
+-- What a test of the space says
+
+pub is-full : (b : Bool) (m n : ℕ) → not b ≡ true → b ≡ leb m n → n < m
+is-full true m n h e = let z : _≡_ {A = ℕ} 0 1 = cc in absurd (omega arith)
+is-full false m n h e = no-leb m n (sym e)
+
+pub has-room : (b : Bool) (m n : ℕ) → not b ≡ false → b ≡ leb m n → m ≤ n
+has-room true m n h e = yes-leb m n (sym e)
+has-room false m n h e = let z : _≡_ {A = ℕ} 0 1 = cc in absurd (omega arith)
+
+-- No sum wraps
+
+octets-same : {m n : ℕ} → octets m ≡ octets n → m ≡ n
+octets-same e = cc
+
+both-octets : (a b : Size) (n : ℕ) → octets n ≡ both a b → (x : ℕ) × ((y : ℕ) × ((octets x ≡ a) × ((octets y ≡ b) × (n ≡ x + y))))
+unfolding both
+both-octets (refused r) b n e = let z : _≡_ {A = ℕ} 0 1 = cc in absurd (omega arith)
+both-octets long (refused r) n e = let z : _≡_ {A = ℕ} 0 1 = cc in absurd (omega arith)
+both-octets long long n e = let z : _≡_ {A = ℕ} 0 1 = cc in absurd (omega arith)
+both-octets long (octets y) n e = let z : _≡_ {A = ℕ} 0 1 = cc in absurd (omega arith)
+both-octets (octets x) (refused r) n e = let z : _≡_ {A = ℕ} 0 1 = cc in absurd (omega arith)
+both-octets (octets x) long n e = let z : _≡_ {A = ℕ} 0 1 = cc in absurd (omega arith)
+both-octets (octets x) (octets y) n e = let s : n ≡ x + y = cc in (x, (y, (refl, (refl, s))))
+
+pub fields-small : (pool tape : List ℕ) (ps : List Bool) (layout ws : List ℕ) (n : ℕ) → octets n ≡ fieldsSize errata pool tape (select ps (map fieldOf layout)) ws
+    → n ≤ length layout * 4294967299
+unfolding select
+fields-small pool tape [] layout ws n e = let z : n ≡ 0 = octets-same (e ∙ no-fields-size pool tape ws) in omega arith
+fields-small pool tape (p ∷ ps) [] ws n e = let z : n ≡ 0 = octets-same (e ∙ no-fields-size pool tape ws) in omega arith
+fields-small pool tape (false ∷ ps) (c ∷ layout) ws n e = omega (arith, fields-small pool tape ps layout ws n e)
+fields-small pool tape (true ∷ ps) (c ∷ layout) ws n e =
+    let s = both-octets (fieldSize errata pool tape (fieldOf c) ws) (fieldsSize errata pool tape (select ps (map fieldOf layout)) (drop (width (fieldOf c)) ws)) n
+    (e ∙ fields-size pool tape (fieldOf c) (select ps (map fieldOf layout)) ws) in
+    omega (
+      arith,
+      s .1 .1 .1 .1,
+      size-small pool tape ws c (s .0) (s .1 .1 .0),
+      fields-small pool tape ps layout (drop (width (fieldOf c)) ws) (s .1 .0) (s .1 .1 .1 .0),
+    )
+
+-- A command whose fields are all present in its layout
+
+layout-list : (l : Layout) (fs : List Field) → layoutFields l ≡ some fs → map fieldOf (take (l .count) (l .fields)) ≡ fs
+layout-list l fs e = go (l .known) e
+  where
+    go : (b : Bool) → cond b (some (map fieldOf (take (l .count) (l .fields)))) none ≡ some fs → map fieldOf (take (l .count) (l .fields)) ≡ fs
+    go true h = cc
+    go false h = let z : _≡_ {A = ℕ} 0 1 = cc in absurd (omega arith)
+
+module _ (pool tape : List ℕ) (x : Command Returned) (c m : ℕ) (ws : List ℕ) (l : Layout) (is : (x ≡ commandFrom c m ws) × (known c m ≡ true))
+    (laid : layoutFields l ≡ fieldsIn commands c m) where
+  abbrev pub commandFields : List Field
+  commandFields = select (flagsOf 13 8191) (map fieldOf (take (l .count) (l .fields)))
+
+  all-present : commandFields ≡ fieldsOf c m
+  all-present = rw (layout-list l (fieldsOf c m) (laid ∙ known-fields c m (is .1))) (select-all (fieldsOf c m) (omega (arith, command-length c m)))
+
+  pub command-room : widths commandFields ≤ 8
+  command-room = rw all-present (command-widths c m)
+
+  pub command-behind : (at : ℕ) (out : List ℕ) → behind errata pool tape commandFields ws (number.octets 2 c ++ number.octets 2 m) at out ≡ writeCommandPooled errata pool tape x at out
+  unfolding writeCommandPooled commandOctets octetsOfAll
+  command-behind at out =
+      rw (is .0, all-present)
+      (ap (λ (xs : List ℕ). writeAt (refusalPooled errata pool tape (fieldsOf c m) (argsFrom (fieldsOf c m) ws)) xs at out)
+      (append-assoc (number.octets 2 c) (number.octets 2 m) (fieldOctets errata (fieldsOf c m) (argsMeaning errata pool tape (fieldsOf c m) ws))))
+
+-- A content header with the properties that are present
+
+length-flags : (w n : ℕ) → length (flagsOf w n) ≡ w
+unfolding flagsOf
+length-flags zero n = refl
+length-flags (suc w) n = ap suc (length-flags w (n % 2 ^ w))
+
+flags-number : (w n : ℕ) → n < 2 ^ w → flagsNumber (flagsOf w n) ≡ n
+unfolding flagsOf
+flags-number zero n h = omega arith
+flags-number (suc w) n h =
+    rw (length-flags w (n % 2 ^ w))
+    (decide (leb (2 ^ w) n)
+    (λ e. rw (e, flags-number w (n % 2 ^ w) (mod-lt n (pow-pos w))) (high (2 ^ w) n (yes-leb (2 ^ w) n e) (omega (arith, two-pow-succ w))))
+    (λ e. rw (e, flags-number w (n % 2 ^ w) (mod-lt n (pow-pos w))) (low (2 ^ w) n (no-leb (2 ^ w) n e))))
+  where
+    high : (p n : ℕ) → p ≤ n → n < 2 * p → 1 * p + n % p ≡ n
+    high p n a b =
+        let s : n % p ≡ n - p = mod-eq-sub-mod a ∙ mod-eq-of-lt (omega arith) in
+        omega arith
+
+    low : (p n : ℕ) → n < p → 0 * p + n % p ≡ n
+    low p n a = let s : n % p ≡ n = mod-eq-of-lt a in omega arith
+
+module _ (pool tape : List ℕ) (x : Header Returned) (c n r : ℕ) (ws layout : List ℕ) (is : x ≡ headerFrom c n r ws) (small : r < 8192) (laid : map fieldOf layout ≡ properties) where
+  abbrev pub headerFields : List Field
+  headerFields = select (flagsOf 13 r) (map fieldOf layout)
+
+  abbrev pub headerHead : List ℕ
+  headerHead = ((number.octets 2 c ++ number.octets 2 0) ++ number.octets 8 n) ++ number.octets 2 (r * 8)
+
+  pub header-room : widths headerFields ≤ 22
+  header-room = rw laid (property-widths (flagsOf 13 r))
+
+  pub header-behind : (at : ℕ) (out : List ℕ) → behind errata pool tape headerFields ws headerHead at out ≡ writeHeaderPooled errata pool tape x at out
+  unfolding writeHeaderPooled headerOctets octetsOfAll
+  header-behind at out =
+      let fs = select (flagsOf 13 r) properties in
+      let rest = fieldOctets errata fs (argsMeaning errata pool tape fs ws) in
+      let flags : r * 8 ≡ 8 * flagsNumber (flagsOf 13 r) = omega (arith, flags-number 13 r (omega arith)) in
+      let size = number.octets 8 n in
+      let last = number.octets 2 (8 * flagsNumber (flagsOf 13 r)) in
+      rw (is, laid, flags)
+      (ap (λ (xs : List ℕ). writeAt (refusalPooled errata pool tape fs (argsFrom fs ws)) xs at out)
+      (append-assoc ((number.octets 2 c ++ number.octets 2 0) ++ size) last rest
+      ∙ append-assoc (number.octets 2 c ++ number.octets 2 0) size (last ++ rest)
+      ∙ append-assoc (number.octets 2 c) (number.octets 2 0) (size ++ (last ++ rest))))

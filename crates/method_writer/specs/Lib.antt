@@ -1,0 +1,5 @@
+-- The specification of the writers of commands and content headers.
+pub mod Sizes
+pub mod Emitting
+pub mod AnswerOf
+pub mod Properties

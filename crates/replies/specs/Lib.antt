@@ -1,0 +1,3 @@
+-- The specification of the reply readers.
+pub mod Replies
+pub mod AnswerOf
