@@ -57,11 +57,7 @@ keyed-in : (rs : List Row) (c m : ℕ) → m < 100000 → smallMethods rs ≡ tr
 keyed-in [] c m h e = refl
 keyed-in (r ∷ rs) c m h e =
     let a = and-true (leb (suc (r .method)) 100000) (smallMethods rs) e in
-    rw (key-test c m (r .class) (r .method) h (yes-leb (suc (r .method)) 100000 (a .0)), keyed-in rs c m h (a .1)) (both (eqb c (r .class)) (eqb m (r .method)) (some (r .fields)) (lookup none (keyed rs) (c * 100000 + m)))
-  where
-    both : (p q : Bool) (x y : Option (List Field)) → cond p (cond q x y) y ≡ cond (p && q) x y
-    both true q x y = refl
-    both false q x y = refl
+    rw (key-test c m (r .class) (r .method) h (yes-leb (suc (r .method)) 100000 (a .0)), keyed-in rs c m h (a .1))
 
 pub fields-keyed : (c m : ℕ) → m < 100000 → fieldsIn commands c m ≡ lookup none (keyed commands) (c * 100000 + m)
 fields-keyed c m h = keyed-in commands c m h (unfold commands in refl)
@@ -117,13 +113,11 @@ every-row : (ok : List Field → Bool) → ok [] ≡ true → (rs : List Row) (c
 every-row ok z [] c m e = z
 every-row ok z (r ∷ rs) c m e =
     let a = and-true (ok (r .fields)) (every (λ y. ok (y .fields)) rs) e in
-    here (a .0) (eqb c (r .class)) (eqb m (r .method)) (every-row ok z rs c m (a .1))
+    here (a .0) (eqb c (r .class) && eqb m (r .method)) (every-row ok z rs c m (a .1))
   where
-    here : ok (r .fields) ≡ true → (p q : Bool) → ok (orNone (fieldsIn rs c m)) ≡ true
-        → ok (orNone (cond p (cond q (some (r .fields)) (fieldsIn rs c m)) (fieldsIn rs c m))) ≡ true
-    here h true true later = h
-    here h true false later = later
-    here h false q later = later
+    here : ok (r .fields) ≡ true → (b : Bool) → ok (orNone (fieldsIn rs c m)) ≡ true → ok (orNone (cond b (some (r .fields)) (fieldsIn rs c m))) ≡ true
+    here h true later = h
+    here h false later = later
 
 pub every-command : (ok : List Field → Bool) (c m : ℕ) → ok [] ≡ true → every (λ r. ok (r .fields)) commands ≡ true → ok (fieldsOf c m) ≡ true
 unfolding fieldsOf

@@ -1,5 +1,5 @@
 -- The command table, line by line as in document 01, "method.rs: commands".
-use mathlib.Core.Bool.{Bool, true, false, cond}
+use mathlib.Core.Bool.{Bool, true, false, _&&_, cond}
 use mathlib.Core.Option.{Option, none, some}
 use mathlib.Core.List.{List, [], _∷_, _++_}
 use Prim.Native.Nat.{ℕ}
@@ -103,7 +103,7 @@ commands =
 
 abbrev pub fieldsIn : List Row → ℕ → ℕ → Option (List Field)
 fieldsIn [] c m = none
-fieldsIn (r ∷ rs) c m = cond (eqb c (r .class)) (cond (eqb m (r .method)) (some (r .fields)) (fieldsIn rs c m)) (fieldsIn rs c m)
+fieldsIn (r ∷ rs) c m = cond (eqb c (r .class) && eqb m (r .method)) (some (r .fields)) (fieldsIn rs c m)
 
 abbrev pub isSome : Option (List Field) → Bool
 isSome none = false
