@@ -7,6 +7,8 @@ use Rattle.types.specs.Answer.{Refusal, Answer, given, refused}
 use Rattle.types.specs.Memory.{Outcome, outcome}
 use Rattle.types.specs.declared.Span.{Span}
 use Rattle.tables.specs.Tape.{WithCount}
+use Rattle.method.specs.Fields.{Returned}
+use Rattle.method.specs.Properties.{Header, class, bodySize}
 
 pub record Reply : Type 0 where
   pub code : ℕ
@@ -41,6 +43,10 @@ nothing u = []
 -- the words of some tape records: how many they are
 abbrev pub records : WithCount Unit → List ℕ
 records w = w .count ∷ []
+
+-- those of a content header: class, body size, and how many records its headers have
+abbrev pub header : WithCount (Header Returned) → List ℕ
+header w = class (w .value) ∷ bodySize (w .value) ∷ w .count ∷ []
 
 -- a writer leaves its output too, and a reader of tables its tape
 pub record ReplyWith : Type 0 where

@@ -8,12 +8,18 @@ use types::ReadSpan;
 use types::WireError;
 use writers::Written;
 
-// A value: the next position, and two words at most.
+// A value: the next position, and three words at most.
+pub fn give_three(words: &mut [u64; 4], next: usize, first: u64, second: u64, third: u64) -> u32
+    ensures { λ r. ⌜ reply r (now (words .exit)) ≡ reply 0 (next ∷ first ∷ second ∷ third ∷ []) ⌝ }
+{
+    *words = [next as u64, first, second, third];
+    0
+}
+
 pub fn give(words: &mut [u64; 4], next: usize, first: u64, second: u64) -> u32
     ensures { λ r. ⌜ reply r (now (words .exit)) ≡ reply 0 (next ∷ first ∷ second ∷ 0 ∷ []) ⌝ }
 {
-    *words = [next as u64, first, second, 0];
-    0
+    give_three(words, next, first, second, 0)
 }
 
 // A refusal: its number, and two values at most. The common ones have none; kept apart, they cost a reader nothing.

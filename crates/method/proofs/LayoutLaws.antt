@@ -2,11 +2,11 @@
 use mathlib.Core.Path.{_≡_, refl, sym, ap, _∙_}
 use mathlib.Core.Bool.{Bool, true, false, _&&_, cond}
 use mathlib.Core.Option.{Option, none, some}
-use mathlib.Core.List.{List, [], _∷_}
+use mathlib.Core.List.{List, [], _∷_, map}
 use Prim.Native.Nat.{ℕ, suc, _+_, _*_, _≤_, _<_}
 use native.Mathlib.Omega.{arith}
 use borrow.Author.Tests.{eqb-true, eqb-false}
-use lib.ListN.{length}
+use lib.ListN.{length, take}
 use lib.Dec.{T, leb, eqb}
 use types.Run.{OneOf}
 use Rattle.types.specs.Lookup as table
@@ -18,7 +18,7 @@ use Rattle.method.specs.Fields.{Field}
 use Rattle.method.specs.Commands.{Row, commands, fieldsIn, isSome, orNone, known, fieldsOf}
 use Rattle.method.specs.Properties.{properties, select, flagsOf}
 use Rattle.method.specs.Words.{widths}
-use Rattle.method.specs.Layout.{layoutFields}
+use Rattle.method.specs.Layout.{fieldOf, layoutFields}
 use Rattle.method.specs.declared.layout.Layout.{Layout}
 
 -- The key
@@ -151,6 +151,17 @@ select-true (false ∷ ps) (f ∷ fs) e h = absurd (true-T e)
 pub select-all : (fs : List Field) → length fs ≤ 13 → select (flagsOf 13 8191) fs ≡ fs
 unfolding flagsOf
 select-all fs h = select-true (flagsOf 13 8191) fs refl h
+
+-- the fields of a command's layout, all of which are present
+layout-list : (l : Layout) (fs : List Field) → layoutFields l ≡ some fs → map fieldOf (take (l .count) (l .fields)) ≡ fs
+layout-list l fs e = go (l .known) e
+  where
+    go : (b : Bool) → cond b (some (map fieldOf (take (l .count) (l .fields)))) none ≡ some fs → map fieldOf (take (l .count) (l .fields)) ≡ fs
+    go true h = cc
+    go false h = let z : _≡_ {A = ℕ} 0 1 = cc in absurd (omega arith)
+
+pub all-present : (l : Layout) (c m : ℕ) → layoutFields l ≡ some (fieldsOf c m) → select (flagsOf 13 8191) (map fieldOf (take (l .count) (l .fields))) ≡ fieldsOf c m
+all-present l c m e = rw (layout-list l (fieldsOf c m) e) (select-all (fieldsOf c m) (omega (arith, command-length c m)))
 
 select-widths : (ps : List Bool) (fs : List Field) → widths (select ps fs) ≤ widths fs
 unfolding select

@@ -1,4 +1,5 @@
 -- Laws of the specification of commands and content headers.
+pub mod FieldCodes
 pub mod FieldLaws
 pub mod LayoutLaws
 pub mod WordLaws

@@ -1,15 +1,12 @@
 -- From the words of a known pair to its command, and from the fields read to what the reader answers.
 use mathlib.Core.Path.{_≡_, refl, sym, ap, _∙_}
-use mathlib.Core.Bool.{Bool, true, false, not, cond}
+use mathlib.Core.Bool.{true, false, not}
 use mathlib.Core.Option.{none, some}
 use mathlib.Core.List.{List, [], _∷_, map}
-use Prim.Native.Nat.{ℕ, suc, _+_, _*_, _^_, _%_, _≤_, _<_}
-use native.Mathlib.Nat.{mod-eq-of-lt}
+use Prim.Native.Nat.{ℕ, suc, _+_, _*_, _≤_, _<_}
 use native.Mathlib.Omega.{arith}
-use mir.Syntax.{w64}
-use mir.Val.{Fits}
 use borrow.Author.Tests.{not-true, not-false}
-use lib.ListN.{length, take, drop, getD}
+use lib.ListN.{length, take, getD}
 use lib.Dec.{leb}
 use types.Run.{OneOf}
 use Rattle.types.specs.Answer.{Refusal, given, refused, notWritten, unknownMethod}
@@ -21,16 +18,16 @@ use Rattle.types.proofs.NumberLaws.{Octets}
 use Rattle.types.proofs.Tests.{yes-leb, leb-yes, leb-no}
 use Rattle.tables.specs.Letters.{Letters}
 use Rattle.tables.specs.Tape.{roomOf}
-use Rattle.method.specs.Fields.{Field, fixed, arg, Returned, Args}
+use Rattle.method.specs.Fields.{Field, Returned}
 use Rattle.method.specs.Commands.{commands, fieldsIn, isSome, known, fieldsOf, Command, call}
 use Rattle.method.specs.Properties.{select, flagsOf}
 use Rattle.method.specs.Reading.{commandAt, readCommand, returnedArgs}
-use Rattle.method.specs.Words.{width, argFrom, argsFrom}
+use Rattle.method.specs.Words.{argsFrom}
 use Rattle.method.specs.Layout.{fieldOf, layoutFields}
 use Rattle.method.specs.declared.layout.Layout.{Layout}
-use Rattle.method.proofs.LayoutLaws.{key-pair, rest-commands, armsOf, known-fields, command-length, select-all}
+use Rattle.method.proofs.LayoutLaws.{key-pair, rest-commands, armsOf, known-fields, all-present}
 use Rattle.types.proofs.Arms.{Rest}
-use Rattle.method_reader.specs.Fields.{scanAt, FieldsStored, noTable, tableFilled, cutArg, cutArgs, readArguments}
+use Rattle.method_reader.specs.Fields.{scanAt, FieldsStored, noTable, tableFilled, cutArgs, readArguments}
 use Rattle.method_reader.specs.declared.fields.TablePlace.{TablePlace}
 use Rattle.method_reader.specs.declared.fields.ReadFields.{ReadFields}
 use Rattle.method_reader.specs.declared.fields.ReadFields.the-variants as fields
@@ -55,36 +52,12 @@ eight-words (a ∷ b ∷ c ∷ d ∷ e ∷ f ∷ []) l = absurd (omega arith)
 eight-words (a ∷ b ∷ c ∷ d ∷ e ∷ f ∷ g ∷ []) l = absurd (omega arith)
 eight-words (a ∷ b ∷ c ∷ d ∷ e ∷ f ∷ g ∷ h ∷ i ∷ ws) l = absurd (omega arith)
 
--- Arguments made of words, one by one
-
-abbrev Made : (fs : List Field) → Args Returned fs → List ℕ → Type 0
-Made [] vs ws = Unit {0}
-Made (fixed xs ∷ fs) vs ws = Made fs vs ws
-Made (arg k ∷ fs) vs ws = (vs .0 ≡ cutArg k (argFrom k ws)) × Made fs (vs .1) (drop (width (arg k)) ws)
-
-made-args : (fs : List Field) (vs : Args Returned fs) (ws : List ℕ) → Made fs vs ws → vs ≡ cutArgs fs (argsFrom fs ws)
-unfolding cutArgs argsFrom
-made-args [] vs ws m = refl
-made-args (fixed xs ∷ fs) vs ws m = made-args fs vs ws m
-made-args (arg k ∷ fs) vs ws m = let rest = made-args fs (vs .1) (drop (width (arg k)) ws) (m .1) in λ i. (m .0 i, rest i)
-
--- a word is not changed by the cut to eight octets
-pub word-kept : (n : ℕ) → Fits w64 n → n ≡ n % 256 ^ 8
-word-kept n f = sym (mod-eq-of-lt (f .fits))
-
--- a command of a pair, made of words
-abbrev pub MadeOf : ℕ → ℕ → Command Returned → List ℕ → Type 0
-MadeOf d n (call c m vs) ws = (c ≡ d) × (m ≡ n) × Made (fieldsOf c m) vs ws
-
-made-command : (d n : ℕ) (x : Command Returned) (ws : List ℕ) → MadeOf d n x ws → x ≡ commandIn d n ws
-made-command d n (call c m vs) ws e = ap (call c m) (made-args (fieldsOf c m) vs ws (e .2)) ∙ (rw (e .0, e .1))
-
 -- In a match on the key: an arm of one key, and the rest
 pub command-arm : (d n c m : ℕ) (ws : List ℕ) {x : Command Returned} → length ws ≡ 8 → m < 65536 → OneOf ((d * 100000 + n) ∷ []) (c * 100000 + m)
-    → leb (suc n) 100000 ≡ true → MadeOf d n x (eight ws) → x ≡ commandIn c m ws
+    → leb (suc n) 100000 ≡ true → x ≡ commandIn d n (eight ws) → x ≡ commandIn c m ws
 command-arm d n c m ws {x} l h o k e =
     let p = key-pair c m d n (omega arith) (yes-leb (suc n) 100000 k) o in
-    let whole : x ≡ commandIn d n ws = rw (eight-words ws l) at (made-command d n x (eight ws) e) in
+    let whole : x ≡ commandIn d n ws = rw (eight-words ws l) at e in
     rw (p .0, p .1) whole
 
 pub none-known : (c m : ℕ) → known c m ≡ true → m < 65536 → Rest (armsOf commands []) (c * 100000 + m) → ⊥
@@ -92,18 +65,6 @@ none-known c m k h r =
     let e : some (fieldsOf c m) ≡ none = sym (known-fields c m k) ∙ rest-commands c m (omega arith) r in
     let z : _≡_ {A = ℕ} 0 1 = cc in
     omega arith
-
--- The fields of a layout, all of which are present
-
-layout-list : (l : Layout) (fs : List Field) → layoutFields l ≡ some fs → map fieldOf (take (l .count) (l .fields)) ≡ fs
-layout-list l fs e = go (l .known) e
-  where
-    go : (b : Bool) → cond b (some (map fieldOf (take (l .count) (l .fields)))) none ≡ some fs → map fieldOf (take (l .count) (l .fields)) ≡ fs
-    go true h = cc
-    go false h = let z : _≡_ {A = ℕ} 0 1 = cc in absurd (omega arith)
-
-pub all-present : (l : Layout) (c m : ℕ) → layoutFields l ≡ some (fieldsOf c m) → select (flagsOf 13 8191) (map fieldOf (take (l .count) (l .fields))) ≡ fieldsOf c m
-all-present l c m e = rw (layout-list l (fieldsOf c m) e) (select-all (fieldsOf c m) (omega (arith, command-length c m)))
 
 -- a layout is known where its pair is
 fields-known : (c m : ℕ) (fs : List Field) → some fs ≡ fieldsIn commands c m → known c m ≡ true

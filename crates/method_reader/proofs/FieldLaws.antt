@@ -1,26 +1,20 @@
--- The loop over fields: what an octet of a layout says, a field's words stored, and one turn.
+-- The loop over fields: a field's words stored, and one turn.
 use mathlib.Core.Path.{_≡_, refl, sym, ap, _∙_}
-use mathlib.Core.Bool.{Bool, cond}
+use mathlib.Core.Bool.{cond}
 use mathlib.Core.List.{List, [], _∷_, _++_, map, append-nil}
-use Prim.Native.Nat.{ℕ, suc, _+_, _-_, _*_, _^_, _/_, _%_, _≤_, _<_}
+use Prim.Native.Nat.{ℕ, _+_, _-_, _/_, _≤_, _<_}
 use native.Mathlib.Omega.{arith}
-use native.Mathlib.Numerals.{add-one}
-use native.Mathlib.Nat.{sub-zero, two-pow-succ, mod-eq-of-lt}
-use borrow.Author.Tests.{eqb-true, eqb-false, ne-eqb}
+use native.Mathlib.Nat.{sub-zero}
+use borrow.Author.Tests.{ne-eqb}
 use lib.Dec.{eqb}
-use lib.ListN.{length, drop, getD, drop-of-length-le}
-use lib.Arith.{digits-mod}
-use lib.Seq.{drop-cons, sets}
-use types.Run.{OneOf}
+use lib.ListN.{length, getD}
+use lib.Seq.{sets}
 use Rattle.types.specs.Answer.{Answer, Refusal, given, refused, andThen}
 use Rattle.types.specs.AnswerOf.{refusal}
 use Rattle.types.specs.declared.WireError.{WireError}
-use Rattle.types.specs.Lookup.{lookup}
 use Rattle.types.specs.Memory.{splice}
-use Rattle.types.proofs.Arms.{Rest, rest}
 use Rattle.types.proofs.Chain.{then-go, given-next, given-value}
 use Rattle.types.proofs.Splice.{splice-nil, splice-after, splice-sets}
-use Rattle.types.proofs.Tests.{decide, leb-yes, leb-no}
 use Rattle.tables.specs.Letters.{errata}
 use Rattle.tables.specs.Reading.{tableAt}
 use Rattle.tables.proofs.TapeLaws.{length-flatten}
@@ -28,7 +22,8 @@ use Rattle.method.specs.Fields.{Kind, number, shortStr, bits, login, table, Fie
 use Rattle.method.specs.Properties.{select, flagsOf}
 use Rattle.method.specs.Reading.{argAt, argTape, fixedAt, fieldsAt, returnedArg, returnedArgs, used}
 use Rattle.method.specs.Words.{width, widths, argWords, argsWords}
-use Rattle.method.specs.Layout.{kinds, fieldOf, fixedOctets}
+use Rattle.method.specs.Layout.{fieldOf}
+use Rattle.method.proofs.FieldCodes.{Left, Present, all-left, none-left, present-left, absent-left}
 use Rattle.method.proofs.WordLaws.{length-words}
 use Rattle.method.proofs.Bounds.{arg-within}
 use Rattle.method_reader.specs.declared.fields.TablePlace.{TablePlace}
@@ -38,31 +33,6 @@ use Rattle.method_reader.specs.declared.fields.ReadFields.{ReadFields}
 use Rattle.method_reader.specs.declared.fields.ReadFields.the-variants as fields
 use Rattle.method_reader.specs.Fields.{FieldRead, FieldsRead, fieldAt, FieldStored, tableAfter, lastTable, scanAt, FieldsStored, noTable}
 use Rattle.method_reader.specs.AnswerOf.{answerOfField, answerOfFields}
-
--- A field by its high digit
-
-pub field-arm : (c k : ℕ) → OneOf (k ∷ []) (c / 16) → fieldOf c ≡ lookup (fixed []) (kinds (c % 16)) k
-unfolding fieldOf
-field-arm c k o = ap (lookup (fixed []) (kinds (c % 16))) o
-
--- the arms of the arguments, the last one first
-abbrev pub arms : List (List ℕ)
-arms = (15 ∷ []) ∷ (13 ∷ []) ∷ (11 ∷ []) ∷ (5 ∷ []) ∷ (0 ∷ []) ∷ []
-
-no-kind : (c : ℕ) → Rest ((12 ∷ []) ∷ (10 ∷ []) ∷ arms) (c / 16) → fieldOf c ≡ fixed []
-unfolding fieldOf
-no-kind c q = rest (fixed []) ((12 ∷ []) ∷ (10 ∷ []) ∷ arms) (c / 16) (kinds (c % 16)) q tt
-
--- the kinds without an arm are fixed
-pub field-fixed : (c : ℕ) → Rest arms (c / 16) → fieldOf c ≡ fixed (fixedOctets (fieldOf c))
-field-fixed c r =
-    decide (eqb (c / 16) 10) (λ y. of (field-arm c 10 (eqb-true (c / 16) 10 y)))
-    (λ n.
-    decide (eqb (c / 16) 12) (λ y. of (field-arm c 12 (eqb-true (c / 16) 12 y)))
-    (λ m. of (no-kind c ((r, eqb-false (c / 16) 10 n), eqb-false (c / 16) 12 m))))
-  where
-    of : {xs : List ℕ} → fieldOf c ≡ fixed xs → fieldOf c ≡ fixed (fixedOctets (fieldOf c))
-    of e = e ∙ ap (λ (f : Field). fixed (fixedOctets f)) (sym e)
 
 -- One field stored
 
@@ -222,54 +192,31 @@ module _ (fs : List Field) (s : List ℕ) (p room : ℕ) (last : TablePlace) whe
       rw (scan-given f x q e)
       (stored-behind (x .words) (scanAt errata fs s q (room - x .records) (placeAfter (x .records) p last)) j before after r (omega (arith, wide)) (rw (wide, ← n) k))
 
--- The fields left: those whose flag is set, of w flags
-
-flag-set : (w flags : ℕ) (f : Field) (fs : List Field) → 2 ^ w ≤ flags → flags < 2 ^ suc w → select (flagsOf (suc w) flags) (f ∷ fs) ≡ f ∷ select (flagsOf w (flags - 2 ^ w)) fs
-unfolding flagsOf select
-flag-set w flags f fs h l =
-    let e : flags ≡ 1 * 2 ^ w + (flags - 2 ^ w) = omega arith in
-    let m : flags % 2 ^ w ≡ flags - 2 ^ w = ap (λ (n : ℕ). n % 2 ^ w) e ∙ digits-mod 1 (omega (arith, two-pow-succ w)) in
-    rw (leb-yes (2 ^ w) flags h, m)
-
-flag-clear : (w flags : ℕ) (f : Field) (fs : List Field) → flags < 2 ^ w → select (flagsOf (suc w) flags) (f ∷ fs) ≡ select (flagsOf w flags) fs
-unfolding flagsOf select
-flag-clear w flags f fs h = rw (leb-no (2 ^ w) flags h, mod-eq-of-lt h)
-
--- those of a layout's octets from the ith on
-abbrev pub chosen : List ℕ → ℕ → ℕ → ℕ → List Field
-chosen layout i w flags = select (flagsOf w flags) (map fieldOf (drop i layout))
-
-chosen-more : (layout : List ℕ) (i w flags : ℕ) → i < length layout → chosen layout i w flags ≡ select (flagsOf w flags) (fieldOf (getD layout i 0) ∷ map fieldOf (drop (i + 1) layout))
-chosen-more layout i w flags h = rw (add-one i) (ap (λ (l : List ℕ). select (flagsOf w flags) (map fieldOf l)) (drop-cons layout i 0 h))
-
-chosen-none : (layout : List ℕ) (i w flags : ℕ) → length layout ≤ i → chosen layout i w flags ≡ []
-unfolding select
-chosen-none layout i w flags h = rw (drop-of-length-le layout h) (none (flagsOf w flags))
-  where
-    none : (ps : List Bool) → select ps [] ≡ []
-    none [] = refl
-    none (p ∷ ps) = refl
+-- The fields left
 
 abbrev pub AllStored : List ℕ → ℕ → List ℕ → ℕ → ℕ → List ℕ → List ℕ → ReadFields → Type 0
 AllStored layout present s from room before after r = FieldsStored (scanAt errata (select (flagsOf 13 present) (map fieldOf layout)) s from room noTable) 0 before after r
 
 -- What is left, done, does the whole
 pub record Going (layout : List ℕ) (present : ℕ) (s : List ℕ) (from room : ℕ) (words₀ words : List ℕ) (flags weight records start left at j i : ℕ) : Type 0 where
-  -- flags left, of thirteen
-  pub w : ℕ
-  pub turns : w + i ≡ 13
-  pub weighs : weight ≡ 2 ^ w / 2
-  pub small : flags < 2 ^ w
-  pub fits : j + widths (chosen layout i w flags) ≤ length words
+  pub fs : List Field
+  pub unread : Left layout weight flags i fs
+  pub fits : j + widths fs ≤ length words
   pub same : length words ≡ length words₀
   pub rest : (after : List ℕ) (r : ReadFields)
-      → FieldsStored (scanAt errata (chosen layout i w flags) s at left (record { records = records; start = start })) j words after r
+      → FieldsStored (scanAt errata fs s at left (record { records = records; start = start })) j words after r
       → AllStored layout present s from room words₀ after r
 
-pub going : (layout : List ℕ) (present : ℕ) (s : List ℕ) (from room : ℕ) (words : List ℕ) → present < 8192
+pub going : (layout : List ℕ) (present : ℕ) (s : List ℕ) (from room : ℕ) (words : List ℕ) → present < 8192 → length layout ≤ 13
     → widths (select (flagsOf 13 present) (map fieldOf layout)) ≤ length words → Going layout present s from room words words present 4096 0 0 room from 0 0
-going layout present s from room words h l =
-    record { w = 13; turns = refl; weighs = refl; small = h; fits = omega arith; same = refl; rest = λ after r g. g }
+going layout present s from room words h l w =
+    record {
+      fs = select (flagsOf 13 present) (map fieldOf layout);
+      unread = all-left layout present h l;
+      fits = omega arith;
+      same = refl;
+      rest = λ after r g. g;
+    }
 
 module _ {layout : List ℕ} {present : ℕ} {s : List ℕ} {from room : ℕ} {words₀ words : List ℕ} {flags weight records start left at j i : ℕ}
     (go : Going layout present s from room words₀ words flags weight records start left at j i) where
@@ -278,61 +225,29 @@ module _ {layout : List ℕ} {present : ℕ} {s : List ℕ} {from room : ℕ} {w
 
   pub at-end : length layout ≤ i → AllStored layout present s from room words₀ words (fields.Value last at)
   unfolding scanAt fieldsAt argsWords lastTable
-  at-end h = go .rest words (fields.Value last at) (rw (chosen-none layout i (go .w) flags h) (refl, sym (splice-nil j words)))
+  at-end h = go .rest words (fields.Value last at) (rw (none-left layout weight flags i (go .fs) (go .unread) h) (refl, sym (splice-nil j words)))
 
-  module _ (h : i < length layout) (l : length layout ≤ 13) where
+  module _ (h : i < length layout) where
     abbrev here : Field
     here = fieldOf (getD layout i 0)
-
-    abbrev later : List Field
-    later = map fieldOf (drop (i + 1) layout)
-
-    -- one flag less
-    abbrev less : ℕ
-    less = go .w - 1
-
-    one-less : go .w ≡ suc less
-    one-less = omega (arith, go .turns)
-
-    weight-less : weight ≡ 2 ^ less
-    weight-less =
-        let a : weight ≡ 2 ^ suc less / 2 = rw one-less at (go .weighs) in
-        omega (arith, two-pow-succ less)
-
-    small-less : flags < 2 ^ suc less
-    small-less = rw one-less at (go .small)
-
-    halved : weight / 2 ≡ 2 ^ less / 2
-    halved = ap (λ (n : ℕ). n / 2) weight-less
-
-    opened : chosen layout i (go .w) flags ≡ select (flagsOf (suc less) flags) (here ∷ later)
-    opened = chosen-more layout i (go .w) flags h ∙ ap (λ (n : ℕ). select (flagsOf n flags) (here ∷ later)) one-less
-
-    set-chosen : weight ≤ flags → chosen layout i (go .w) flags ≡ here ∷ chosen layout (i + 1) less (flags - weight)
-    set-chosen a = rw weight-less (opened ∙ flag-set less flags here later (omega (arith, weight-less)) small-less)
-
-    clear-chosen : flags < weight → chosen layout i (go .w) flags ≡ chosen layout (i + 1) less flags
-    clear-chosen a = opened ∙ flag-clear less flags here later (omega (arith, weight-less))
 
     -- a field that is absent
     pub turn-absent : flags < weight → Going layout present s from room words₀ words flags (weight / 2) records start left at j (i + 1)
     turn-absent a =
         record {
-          w = less;
-          turns = omega (arith, go .turns);
-          weighs = halved;
-          small = omega (arith, weight-less);
-          fits = rw (clear-chosen a) at (go .fits);
+          fs = go .fs;
+          unread = absent-left layout weight flags i (go .fs) h (go .unread) a;
+          fits = go .fits;
           same = go .same;
-          rest = λ after r g. go .rest after r (rw (clear-chosen a) g);
+          rest = go .rest;
         }
 
     module _ (a : weight ≤ flags) where
-      abbrev behindIt : List Field
-      behindIt = chosen layout (i + 1) less (flags - weight)
+      turn : Present layout weight flags i (go .fs)
+      turn = present-left layout weight flags i (go .fs) h (go .unread) a
 
-      wide : j + (width here + widths behindIt) ≤ length words
-      wide = rw (set-chosen a) at (go .fits)
+      wide : j + (width here + widths (turn .others)) ≤ length words
+      wide = rw (turn .first) at (go .fits)
 
       pub words-here : j + width here ≤ length words
       words-here = omega (arith, wide)
@@ -342,7 +257,7 @@ module _ {layout : List ℕ} {present : ℕ} {s : List ℕ} {from room : ℕ} {w
             → AllStored layout present s from room words₀ after r
         turn-refused e b after r k =
             let f = answer-refused j words stored q (fieldAt errata here s at left) e b g in
-            go .rest after r (rw (set-chosen a, scan-refused behindIt s at left last here e f) k)
+            go .rest after r (rw (turn .first, scan-refused (turn .others) s at left last here e f) k)
 
         module _ (own next : ℕ) (b : answerOfField q ≡ given own next) where
           pub own-fits : own ≤ left
@@ -356,16 +271,14 @@ module _ {layout : List ℕ} {present : ℕ} {s : List ℕ} {from room : ℕ} {w
               answer-given j words stored q (fieldAt errata here s at left) own next b g
               (λ x e m n.
               record {
-                w = less;
-                turns = omega (arith, go .turns);
-                weighs = halved;
-                small = omega (arith, weight-less, small-less, two-pow-succ less);
+                fs = turn .others;
+                unread = turn .left;
                 fits = omega (arith, wide);
                 same = same ∙ go .same;
                 rest =
                     λ after r k.
                     go .rest after r
-                    (rw (set-chosen a) (turn-given behindIt s at left last here x next j words stored e n words-here after r (rw (m, ← place, ← room') k)));
+                    (rw (turn .first) (turn-given (turn .others) s at left last here x next j words stored e n words-here after r (rw (m, ← place, ← room') k)));
               })
 
           -- a field without records, and a table that has some

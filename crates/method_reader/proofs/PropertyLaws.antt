@@ -3,19 +3,13 @@ use mathlib.Core.Path.{_≡_, refl, sym, ap, subst, _∙_}
 use mathlib.Core.Bool.{Bool}
 use mathlib.Core.Option.{Option, none, some}
 use mathlib.Core.List.{List, [], _∷_, map}
-use Prim.Native.Nat.{ℕ, zero, suc, _+_, _-_, _^_, _/_, _%_, _≤_, _<_}
+use Prim.Native.Nat.{ℕ, suc, _+_, _^_, _/_, _%_, _≤_, _<_}
 use native.Mathlib.Omega.{arith}
 use native.Mathlib.Nat.{add-zero, mod-eq-of-lt, mod-eq-sub-mod, mod-lt, two-pow-succ}
 use lib.ListN.{length, getD, drop}
 use lib.Seq.{getD-drop, drop-drop}
-use lib.Dec.{leb, lit<}
+use lib.Dec.{leb}
 use lib.Pow.{pow-pos}
-use mir.Syntax.{w64}
-use mir.Val.{Val}
-use denote.Shadow.{shadow}
-use denote.Laws.{Is}
-use denote.Plain.{UInt}
-use denote.Array.{each, Array}
 use Rattle.types.specs.Answer.{given, refused, Refusal}
 use Rattle.types.specs.AnswerOf.{refusal}
 use Rattle.types.specs.declared.WireError.{WireError}
@@ -57,16 +51,6 @@ first-word words j = sym (getD-drop j words 0 0 ∙ ap (λ (i : ℕ). getD words
 
 pub first-span : (words : List ℕ) (j : ℕ) → record { start = getD words j 0; len = getD words (j + 1) 0 } ≡ spanFrom (drop j words)
 first-span words j = rw (sym (first-word words j), getD-drop j words 1 0)
-
--- every word of an array has 64 bits
-words-fit : (xs : List ℕ) (us : List Val) → shadow (each ℕ (UInt w64 .own) xs us) → (i : ℕ) → getD xs i 0 < 2 ^ 64
-words-fit [] us h i = lit< tt
-words-fit (x ∷ xs) [] h i = absurd h
-words-fit (x ∷ xs) (u ∷ us) h zero = h .0 .1
-words-fit (x ∷ xs) (u ∷ us) h (suc i) = words-fit xs us (h .1) i
-
-pub word-kept : (n : ℕ) (words : List ℕ) (vs : List Val) (j : ℕ) → Is (Array (UInt w64) n) words vs → getD words j 0 ≡ getD (drop j words) 0 0 % 2 ^ 64
-word-kept n words vs j h = first-word words j ∙ sym (mod-eq-of-lt (rw (sym (first-word words j)) (words-fit words (h .0) (h .1 .1) j)))
 
 -- All of some properties, by their flags
 

@@ -13,10 +13,10 @@ use Rattle.tables.specs.Letters.{Letters}
 use Rattle.tables.specs.Forest.{size}
 use Rattle.tables.specs.Tape.{WithCount, roomOf, fillTape, readTable}
 use Rattle.method.specs.Fields.{Kind, number, shortStr, bits, login, table, Field, fixed, arg, Located, Returned, Args}
-use Rattle.method.specs.Commands.{Command}
+use Rattle.method.specs.Commands.{known, fieldsOf, Command, call}
 use Rattle.method.specs.Properties.{Header}
 use Rattle.method.specs.Reading.{argAt, fixedAt, fieldsAt, argumentsAt, propertiesAt, returnedArg, returnedArgs, used, commandWithTape, headerWithTape}
-use Rattle.method.specs.Words.{argWords, argsWords}
+use Rattle.method.specs.Words.{argWords, argsWords, argsFrom}
 use Rattle.method_reader.specs.declared.fields.TablePlace.{TablePlace}
 use Rattle.method_reader.specs.declared.fields.ReadField.{ReadField}
 use Rattle.method_reader.specs.declared.fields.ReadFields.{ReadFields}
@@ -118,3 +118,7 @@ unfoldable pub cutArgs : (fs : List Field) → Args Returned fs → Args Returne
 cutArgs [] vs = tt
 cutArgs (fixed xs ∷ fs) vs = cutArgs fs vs
 cutArgs (arg k ∷ fs) vs = (cutArg k (vs .0), cutArgs fs (vs .1))
+
+-- the command of a pair that is known, made of words
+unfoldable pub commandWith : ℕ → ℕ → List ℕ → Option (Command Returned)
+commandWith c m ws = cond (known c m) (some (call c m (cutArgs (fieldsOf c m) (argsFrom (fieldsOf c m) ws)))) none

@@ -11,8 +11,9 @@ ghost use Rattle.method.specs.Reading.{readCommand};
 ghost use Rattle.method.specs.Words.{argsFrom};
 ghost use Rattle.method.specs.Layout.{layoutFields};
 ghost use Rattle.method.specs.AnswerOf.{commandOf};
-ghost use Rattle.method_reader.specs.Fields.{cutArgs, readArguments};
-ghost use Rattle.method_reader.specs.AnswerOf.{answerOfCommand};
+ghost use Rattle.method_reader.specs.Fields.{cutArgs, commandWith, readArguments};
+ghost use Rattle.method_reader.specs.AnswerOf.{answerOfCommand, commandOfKnown};
+use crate::KnownCommand;
 use crate::ReadCommand;
 use crate::fields::ReadFields;
 use crate::fields::fill_table;
@@ -140,6 +141,17 @@ fn command_of(class: u16, method: u16, words: [u64; 8]) -> Command
         // No other pair is known.
         _ => Command::TxSelect,
     }
+}
+
+// The command of a class and method from the words of its arguments, in wire order (specs/Words.antt of method). Numbers are cut to
+// their width.
+pub fn known_command(class: u16, method: u16, arguments: [u64; 8]) -> KnownCommand
+    ensures { λ r. ⌜ commandOfKnown r ≡ commandWith class method arguments ⌝ }
+{
+    if !layout_of(class, method).known {
+        return KnownCommand::Unknown;
+    }
+    KnownCommand::Known(command_of(class, method, arguments))
 }
 
 // What follows a class and method that are known, up to the end of the octets.

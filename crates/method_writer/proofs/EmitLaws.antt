@@ -35,7 +35,7 @@ use Rattle.table_writer.specs.Emitting.{nextOr, Emitted}
 use Rattle.table_writer.proofs.EmitLaws.{emitted, number-emitted, emitted-length, emitted-after, length-span}
 use Rattle.method_writer.specs.Sizes.{Size, octets, long, refused, sized, argMeaning, fieldSize, fieldsSize, octetsOf, octetsOfAll}
 use Rattle.method_writer.specs.Emitting.{Ready}
-use Rattle.method_writer.proofs.FieldCodes.{code-arm, argArms, code-rest, Left, Present, none-left, present-left, absent-left}
+use Rattle.method.proofs.FieldCodes.{code-arm, argArms, code-rest, Left, Present, none-left, present-left, absent-left}
 use Rattle.method_writer.proofs.SizeLaws.{both, fields-size}
 
 -- Numbers

@@ -37,7 +37,7 @@ use Rattle.method_writer.specs.AnswerOf.{answerOfSize}
 use Rattle.method_writer.specs.declared.sizes.FieldSize.{FieldSize}
 use Rattle.method_writer.specs.declared.sizes.FieldSize.the-variants as code
 use Rattle.method_writer.proofs.sizes.FieldSize.{the-type}
-use Rattle.method_writer.proofs.FieldCodes.{Left, Present, all-left, none-left, present-left, absent-left, Few, few-octets}
+use Rattle.method.proofs.FieldCodes.{Left, Present, all-left, none-left, present-left, absent-left, Few, few-octets}
 
 -- Answers
 

@@ -1,6 +1,6 @@
 -- The two passes together: from what the first answers of some fields to the answer and the output at exit, with any octets before them.
 use mathlib.Core.Path.{_≡_, refl, sym, ap, _∙_}
-use mathlib.Core.Bool.{Bool, true, false, not, cond}
+use mathlib.Core.Bool.{Bool, true, false, not}
 use mathlib.Core.Option.{Option, none, some}
 use mathlib.Core.List.{List, [], _∷_, _++_, map, append-assoc}
 use Prim.Native.Nat.{ℕ, zero, suc, _+_, _-_, _*_, _^_, _%_, _≤_, _<_}
@@ -30,7 +30,7 @@ use Rattle.method.specs.Pooled.{judgePooled, refusalPooled, writeCommandPooled,
 use Rattle.method.specs.Words.{width, widths, argsFrom, commandFrom, headerFrom}
 use Rattle.method.specs.Layout.{fieldOf, layoutFields}
 use Rattle.method.specs.declared.layout.Layout.{Layout}
-use Rattle.method.proofs.LayoutLaws.{known-fields, command-length, command-widths, select-all, property-widths}
+use Rattle.method.proofs.LayoutLaws.{known-fields, command-widths, all-present, property-widths}
 use Rattle.method_writer.specs.Sizes.{Size, octets, long, refused, sized, argsMeaning, fieldSize, fieldsSize, octetsOfAll}
 use Rattle.method_writer.specs.Emitting.{Ready}
 use Rattle.method_writer.proofs.SizeLaws.{sized-octets, both, fields-size, no-fields-size, size-small}
@@ -169,28 +169,21 @@ fields-small pool tape (true ∷ ps) (c ∷ layout) ws n e =
 
 -- A command whose fields are all present in its layout
 
-layout-list : (l : Layout) (fs : List Field) → layoutFields l ≡ some fs → map fieldOf (take (l .count) (l .fields)) ≡ fs
-layout-list l fs e = go (l .known) e
-  where
-    go : (b : Bool) → cond b (some (map fieldOf (take (l .count) (l .fields)))) none ≡ some fs → map fieldOf (take (l .count) (l .fields)) ≡ fs
-    go true h = cc
-    go false h = let z : _≡_ {A = ℕ} 0 1 = cc in absurd (omega arith)
-
 module _ (pool tape : List ℕ) (x : Command Returned) (c m : ℕ) (ws : List ℕ) (l : Layout) (is : (x ≡ commandFrom c m ws) × (known c m ≡ true))
     (laid : layoutFields l ≡ fieldsIn commands c m) where
   abbrev pub commandFields : List Field
   commandFields = select (flagsOf 13 8191) (map fieldOf (take (l .count) (l .fields)))
 
-  all-present : commandFields ≡ fieldsOf c m
-  all-present = rw (layout-list l (fieldsOf c m) (laid ∙ known-fields c m (is .1))) (select-all (fieldsOf c m) (omega (arith, command-length c m)))
+  command-fields : commandFields ≡ fieldsOf c m
+  command-fields = all-present l c m (laid ∙ known-fields c m (is .1))
 
   pub command-room : widths commandFields ≤ 8
-  command-room = rw all-present (command-widths c m)
+  command-room = rw command-fields (command-widths c m)
 
   pub command-behind : (at : ℕ) (out : List ℕ) → behind errata pool tape commandFields ws (number.octets 2 c ++ number.octets 2 m) at out ≡ writeCommandPooled errata pool tape x at out
   unfolding writeCommandPooled commandOctets octetsOfAll
   command-behind at out =
-      rw (is .0, all-present)
+      rw (is .0, command-fields)
       (ap (λ (xs : List ℕ). writeAt (refusalPooled errata pool tape (fieldsOf c m) (argsFrom (fieldsOf c m) ws)) xs at out)
       (append-assoc (number.octets 2 c) (number.octets 2 m) (fieldOctets errata (fieldsOf c m) (argsMeaning errata pool tape (fieldsOf c m) ws))))
 

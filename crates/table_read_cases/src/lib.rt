@@ -1,5 +1,7 @@
 // Cases of the readers of tables: 01 field_table, 02 field_value; 51, one of them over a tape of a given number of records. The
 // crate `lines` has their form.
+ghost use mathlib.Core.Path.{_≡_};
+ghost use mathlib.Core.Bool.{false};
 ghost use Prim.Native.Nat.{_≤_};
 ghost use lib.ListN.{length};
 
@@ -72,7 +74,9 @@ pub fn records(
 }
 
 // Whether nothing is changed but `count` records behind the used ones.
-pub fn kept(tape: &[u64], count: usize) -> bool {
+pub fn kept(tape: &[u64], count: usize) -> bool
+    ensures { λ r. ⌜ (length (now (tape .entry)) ≡ 0 → r ≡ false) ⌝ }
+{
     if tape.len() / RECORD_WORDS < USED {
         return false;
     }
@@ -156,7 +160,9 @@ pub fn answer_with_room(
 }
 
 // A record takes an octet or more, so as many records as octets suffice.
-pub fn room_for(len: usize) -> usize {
+pub fn room_for(len: usize) -> usize
+    ensures { λ r. ⌜ r ≤ len ⌝ }
+{
     if len < MOST { len } else { MOST }
 }
 

@@ -2,7 +2,7 @@
 use mathlib.Core.Path.{_≡_, refl, sym, ap, _∙_}
 use mathlib.Core.Bool.{true, false}
 use mathlib.Core.List.{List, []}
-use Prim.Native.Nat.{ℕ, zero, suc, _+_, _-_, _*_, _≤_, _<_}
+use Prim.Native.Nat.{ℕ, zero, suc, _+_, _*_, _≤_, _<_}
 use native.Mathlib.Omega.{arith}
 use lib.ListN.{length}
 use Rattle.types.specs.Answer.{Answer, Refusal, given, refused, andThen}
@@ -25,13 +25,13 @@ use Rattle.table_reader.proofs.FillLaws.{value-whole, container-whole}
 abbrev withRecords : ℕ → WithCount Unit
 withRecords k = record { value = tt; count = k }
 
-count-given : (a : Answer LocatedTable) (k n : ℕ) → countRecords a ≡ given (withRecords k) n → (t : LocatedTable) × (a ≡ given t n) × (size t ≡ k)
+pub count-given : (a : Answer LocatedTable) (k n : ℕ) → countRecords a ≡ given (withRecords k) n → (t : LocatedTable) × (a ≡ given t n) × (size t ≡ k)
 unfolding counting
 count-given (given t m) k n e =
     (t, ap (given t) (given-next _ _ m n e), ap (λ (w : WithCount Unit). w .count) (given-value (withRecords (size t)) (withRecords k) m n e))
 count-given (refused r) k n e = let z : _≡_ {A = ℕ} 0 1 = cc in absurd (omega arith)
 
-count-refused : (a : Answer LocatedTable) (r : Refusal) → countRecords a ≡ refused r → a ≡ refused r
+pub count-refused : (a : Answer LocatedTable) (r : Refusal) → countRecords a ≡ refused r → a ≡ refused r
 unfolding counting
 count-refused (given t m) r e = let z : _≡_ {A = ℕ} 0 1 = cc in absurd (omega arith)
 count-refused (refused q) r e = let same : q ≡ r = cc in ap refused same

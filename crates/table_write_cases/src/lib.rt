@@ -1,5 +1,6 @@
 // Cases of the writers of tables: 33 write_field_table, 34 write_field_value; 50, one of them into an output of a given size; 52,
 // over a large pool and a tape that repeats its last record. The crate `lines` has their form.
+ghost use mathlib.Core.Path.{_≡_};
 ghost use Prim.Native.Nat.{_≤_};
 ghost use lib.ListN.{length};
 use lines::lent;
@@ -171,7 +172,9 @@ fn repeat(tape: &mut [u64], from: usize) {
 }
 
 // The words of a tape in octets, then its last record again and again.
-pub fn load_repeated(s: &[u8], tape: &mut [u64]) {
+pub fn load_repeated(s: &[u8], tape: &mut [u64])
+    ensures { λ _. ⌜ length (now (tape .exit)) ≡ length (now (tape .entry)) ⌝ }
+{
     load(s, tape);
     repeat(tape, s.len() / WORD_OCTETS);
 }

@@ -6,8 +6,8 @@ use lib.Dec.{lit<}
 use lib.ListN.{length}
 use lib.Seq.{length-take-le}
 use Rattle.tables.specs.Letters.{errata}
-use Rattle.method.proofs.LayoutLaws.{command-widths}
-use Rattle.method_reader.proofs.CommandLaws.{all-present, arguments-refused, arguments-spare, arguments-read}
+use Rattle.method.proofs.LayoutLaws.{command-widths, all-present}
+use Rattle.method_reader.proofs.CommandLaws.{arguments-refused, arguments-spare, arguments-read}
 use Rattle.method_reader.proofs.commands.read_arguments.Statement.{statement}
 use Rattle.method_reader.proofs.commands.read_arguments.Tie as tie
 

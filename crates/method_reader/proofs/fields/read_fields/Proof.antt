@@ -20,7 +20,7 @@ abbrev μ-loop : tie.MeasureT-loop
     length layout - i
 
 loop-holds : tie.Need-loop-holds Inv-loop μ-loop
-loop-holds c = let p = c .before .before .before .pre in going _ _ _ _ _ _ (p .0) (p .3)
+loop-holds c = let p = c .before .before .before .pre in going _ _ _ _ _ _ (p .0) (p .1) (p .3)
 
 shared-slice-read-field : tie.Need-shared-slice-read-field Inv-loop μ-loop
 shared-slice-read-field c = search needs
@@ -29,8 +29,7 @@ read-field-requires : tie.Need-read-field-requires Inv-loop μ-loop
 read-field-requires c κs =
     let t = c .before .before in
     let e = t .before .before in
-    let l = e .before .before .before .before .pre .1 in
-    words-here (e .loop .inv) (t .before .loop-test .taken) l (t .if1 .taken)
+    words-here (e .loop .inv) (t .before .loop-test .taken) (t .if1 .taken)
 
 enum-known-e : tie.Need-enum-known-e Inv-loop μ-loop
 enum-known-e c = search needs
@@ -42,8 +41,7 @@ returns : tie.Need-returns Inv-loop μ-loop
 returns c =
     let t = c .before .before .before .before .before .before .before .before in
     let e = t .before .before in
-    let l = e .before .before .before .before .pre .1 in
-    turn-refused (e .loop .inv) (t .before .loop-test .taken) l (t .if1 .taken) _ _ (c .before .before .before .before .before .read-field .ensures) _ (ap answerOfField (c .before .e .given .1)) _ _ refl
+    turn-refused (e .loop .inv) (t .before .loop-test .taken) (t .if1 .taken) _ _ (c .before .before .before .before .before .read-field .ensures) _ (ap answerOfField (c .before .e .given .1)) _ _ refl
 
 enum-known-own : tie.Need-enum-known-own Inv-loop μ-loop
 enum-known-own c = search needs
@@ -52,8 +50,7 @@ sub-left : tie.Need-sub-left Inv-loop μ-loop
 sub-left c =
     let t = c .before .before .before .before .before .before .before .before .before in
     let e = t .before .before in
-    let l = e .before .before .before .before .pre .1 in
-    own-fits (e .loop .inv) (t .before .loop-test .taken) l (t .if1 .taken) _ _ (c .before .before .before .before .before .before .read-field .ensures) _ _ (ap answerOfField (c .before .before .own .given .1))
+    own-fits (e .loop .inv) (t .before .loop-test .taken) (t .if1 .taken) _ _ (c .before .before .before .before .before .before .read-field .ensures) _ _ (ap answerOfField (c .before .before .own .given .1))
 
 width-of-requires : tie.Need-width-of-requires Inv-loop μ-loop
 width-of-requires c κs = search needs
@@ -62,8 +59,7 @@ add-j : tie.Need-add-j Inv-loop μ-loop
 add-j c =
     let t = c .before .before .before .before .before .before .before .before .before .before in
     let e = t .before .before in
-    let l = e .before .before .before .before .pre .1 in
-    let h = words-here (e .loop .inv) (t .before .loop-test .taken) l (t .if1 .taken) in
+    let h = words-here (e .loop .inv) (t .before .loop-test .taken) (t .if1 .taken) in
     record { fits = omega (arith, h, c .width-of .ensures, e .loop .inv .same, e .before .before .before .before .good) }
 
 add-i : tie.Need-add-i Inv-loop μ-loop
@@ -76,16 +72,15 @@ loop-again : tie.Need-loop-again Inv-loop μ-loop
 loop-again c =
     let go = c .before .before .loop .inv in
     let h = c .before .loop-test .taken in
-    let l = c .before .before .before .before .before .before .pre .1 in
     ⊎-elim
     (λ w.
     let a = ap answerOfField (w .7 .given .1) in
     rw (w .11, w .12, w .13, w .14, w .15, w .16, w .17, w .10 .ensures)
     (⊎-elim
-    (λ t. rw (t .1, t .2, t .3) (turn-table go h l (w .0 .taken) _ _ (w .3 .ensures) _ _ a (t .0 .taken) (w .3 .kept .1 .1 .1 .1 .0)))
-    (λ t. rw (t .1, t .2, t .3) (turn-plain go h l (w .0 .taken) _ _ (w .3 .ensures) _ _ a (t .0 .left) (w .3 .kept .1 .1 .1 .1 .0)))
+    (λ t. rw (t .1, t .2, t .3) (turn-table go h (w .0 .taken) _ _ (w .3 .ensures) _ _ a (t .0 .taken) (w .3 .kept .1 .1 .1 .1 .0)))
+    (λ t. rw (t .1, t .2, t .3) (turn-plain go h (w .0 .taken) _ _ (w .3 .ensures) _ _ a (t .0 .left) (w .3 .kept .1 .1 .1 .1 .0)))
     (w .9 .came)))
-    (λ w. rw (w .1, w .2, w .3, w .4, w .5, w .6, w .7) (turn-absent go h l (w .0 .left)))
+    (λ w. rw (w .1, w .2, w .3, w .4, w .5, w .6, w .7) (turn-absent go h (w .0 .left)))
     (c .if1 .came)
 
 same-length-2 : tie.Need-same-length-2 Inv-loop μ-loop

@@ -2,33 +2,19 @@
 use mathlib.Core.Path.{_≡_, sym, ap, _∙_}
 use mathlib.Core.List.{List}
 use Prim.Native.Nat.{ℕ}
-use native.Mathlib.Omega.{arith}
 use lib.ListN.{set}
-use Rattle.types.specs.Answer.{Answer, Refusal, given, refused}
-use Rattle.types.proofs.Chain.{given-next, given-value}
+use Rattle.types.specs.Answer.{Refusal, given, refused}
 use Rattle.tables.specs.Letters.{errata}
-use Rattle.tables.specs.Forest.{size, LocatedTable}
+use Rattle.tables.specs.Forest.{LocatedTable}
 use Rattle.tables.specs.Reading.{tableAt}
-use Rattle.tables.specs.Tape.{WithCount}
-use Rattle.table_reader.specs.Counting.{counting, countRecords}
 use Rattle.table_reader.specs.AnswerOf.{answerOfRecords}
+use Rattle.table_reader.proofs.ReaderLaws.{count-given, count-refused}
 use Rattle.method.specs.Fields.{table}
 use Rattle.method.specs.Reading.{argAt}
 use Rattle.method_reader.proofs.FieldLaws.{stored-refused, stored-given}
 use borrow.Author.Needs.{needs}
 use Rattle.method_reader.proofs.fields.store_table.Statement.{statement}
 use Rattle.method_reader.proofs.fields.store_table.Tie as tie
-
-count-refused : (a : Answer LocatedTable) (e : Refusal) → countRecords a ≡ refused e → a ≡ refused e
-unfolding counting
-count-refused (given t n) e h = let z : _≡_ {A = ℕ} 0 1 = cc in absurd (omega arith)
-count-refused (refused x) e h = let z : x ≡ e = cc in ap refused z
-
-count-given : (a : Answer LocatedTable) (k q : ℕ) → countRecords a ≡ given (record { value = tt; count = k }) q → (t : LocatedTable) × (a ≡ given t q) × (size t ≡ k)
-unfolding counting
-count-given (given t n) k q h =
-    (t, ap (given t) (given-next (record { value = tt; count = size t }) (record { value = tt; count = k }) n q h), ap (λ (w : WithCount Unit). w .count) (given-value (record { value = tt; count = size t }) (record { value = tt; count = k }) n q h))
-count-given (refused x) k q h = let z : _≡_ {A = ℕ} 0 1 = cc in absurd (omega arith)
 
 module _ (s : List ℕ) (p room : ℕ) where
   table-refused : (e : Refusal) → tableAt errata s p room ≡ refused e → argAt errata table s p room ≡ refused e

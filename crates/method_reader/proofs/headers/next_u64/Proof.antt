@@ -1,7 +1,11 @@
 -- `method_reader::headers::next_u64` meets its contract. Assumes nothing.
+use mathlib.Core.Path.{ap, _∙_}
+use Prim.Native.Nat.{ℕ, _^_, _%_}
+use lib.ListN.{getD}
 use borrow.Author.Needs.{needs}
 use Rattle.method_reader.specs.Properties.{u64In}
-use Rattle.method_reader.proofs.PropertyLaws.{next-there, next-missing, word-kept}
+use Rattle.method_reader.proofs.PropertyLaws.{next-there, next-missing, first-word}
+use Rattle.method_reader.proofs.ReaderLaws.{word-kept}
 use Rattle.method_reader.proofs.headers.next_u64.Statement.{statement}
 use Rattle.method_reader.proofs.headers.next_u64.Tie as tie
 
@@ -12,7 +16,7 @@ array-read-t10 : tie.Need-array-read-t10
 array-read-t10 c = search needs
 
 returns : tie.Need-returns
-returns c = let a = c .before .before .args in next-there u64In (a .t1) (a .rest) (a .weight) _ (c .if1 .taken) (word-kept 22 (a .t1) _ (a .rest .j) (c .before .before .good .0))
+returns c = let a = c .before .before .args in next-there u64In (a .t1) (a .rest) (a .weight) _ (c .if1 .taken) (word-kept (getD (a .t1) (a .rest .j) 0) (search needs) ∙ ap (λ (n : ℕ). n % 256 ^ 8) (first-word (a .t1) (a .rest .j)))
 
 returns-2 : tie.Need-returns-2
 returns-2 c = let a = c .before .before .args in next-missing u64In (a .t1) (a .rest) (a .weight) (c .if1 .left)

@@ -5,7 +5,7 @@ use Prim.Native.Nat.{ℕ, _+_, _-_}
 use native.Mathlib.Omega.{arith}
 use lib.ListN.{length}
 use borrow.Author.Needs.{needs}
-use Rattle.method_writer.proofs.FieldCodes.{all-left}
+use Rattle.method.proofs.FieldCodes.{all-left}
 use Rattle.method_writer.proofs.EmitLaws.{Going, at-end, turn-ready, turn-absent, turn-present}
 use Rattle.method_writer.proofs.emit.emit_fields.Statement.{statement}
 use Rattle.method_writer.proofs.emit.emit_fields.Tie as tie

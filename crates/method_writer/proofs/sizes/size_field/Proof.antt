@@ -9,7 +9,7 @@ use Rattle.method.specs.Fields.{Field}
 use Rattle.method.specs.Words.{width}
 use Rattle.method.specs.Layout.{fieldOf}
 use Rattle.method_writer.specs.Sizes.{Size, octets, fieldSize}
-use Rattle.method_writer.proofs.FieldCodes.{code-arm, code-rest}
+use Rattle.method.proofs.FieldCodes.{code-arm, code-rest}
 use Rattle.method_writer.proofs.SizeLaws.{number-size, bits-size, fixed-size, short-size, table-words, login-tape}
 use borrow.Author.Needs.{needs}
 use Rattle.method_writer.proofs.sizes.size_field.Statement.{statement}
