@@ -264,4 +264,6 @@ pub fn run() {
     }
     println!();
     crate::tables::run(SAMPLES);
+    println!();
+    crate::methods::run(SAMPLES);
 }

@@ -1,4 +1,4 @@
-/* librabbitmq's table codec behind pointers and lengths. What it reads goes into a pool that is recycled after each call, so
+/* librabbitmq's codec of tables and its decoder of properties, behind pointers and lengths. What it reads goes into a pool that is recycled after each call, so
  * that no memory is taken from the system or given back within the time measured. */
 #include <amqp.h>
 #include <amqp_framing.h>
@@ -8,15 +8,19 @@ enum { SLOTS = 8 };
 static amqp_pool_t pool, kept_pools[SLOTS];
 static amqp_table_t kept[SLOTS];
 
-/* Octets read, or 0. */
-size_t librabbitmq_read(const uint8_t *octets, size_t len) {
+static void begin(void) {
     static int begun;
-    amqp_table_t table;
-    size_t at = 0;
     if (!begun) {
         init_amqp_pool(&pool, 131072);
         begun = 1;
     }
+}
+
+/* Octets read, or 0. */
+size_t librabbitmq_read(const uint8_t *octets, size_t len) {
+    amqp_table_t table;
+    size_t at = 0;
+    begin();
     int status = amqp_decode_table((amqp_bytes_t){len, (void *)octets}, &pool, &table, &at);
     recycle_amqp_pool(&pool);
     return status == 0 ? at : 0;
@@ -33,4 +37,14 @@ size_t librabbitmq_keep(size_t slot, const uint8_t *octets, size_t len) {
 size_t librabbitmq_write(size_t slot, uint8_t *out, size_t len) {
     size_t at = 0;
     return amqp_encode_table((amqp_bytes_t){len, out}, &kept[slot], &at) == 0 ? at : 0;
+}
+
+/* The flags of a content header's properties, or 0 if they are refused. The octets begin with the flags. */
+uint32_t librabbitmq_properties(uint16_t class_id, const uint8_t *octets, size_t len) {
+    void *decoded;
+    begin();
+    int status = amqp_decode_properties(class_id, &pool, (amqp_bytes_t){len, (void *)octets}, &decoded);
+    uint32_t flags = status == 0 ? ((amqp_basic_properties_t *)decoded)->_flags : 0;
+    recycle_amqp_pool(&pool);
+    return flags;
 }

@@ -35,12 +35,12 @@ unsafe extern "C" {
 /// Words of a tape record.
 const RECORD: usize = 6;
 
-struct Line {
-    what: String,
-    octets: usize,
-    rust: Side,
-    librabbitmq: Option<Side>,
-    port: Side,
+pub struct Line {
+    pub what: String,
+    pub octets: usize,
+    pub rust: Side,
+    pub librabbitmq: Option<Side>,
+    pub port: Side,
 }
 
 type Entries = Vec<(&'static str, FieldValue)>;
@@ -165,6 +165,33 @@ fn lines(slot: usize, what: &str, entries: Entries) -> [Line; 2] {
     [read, write]
 }
 
+/// Measures the sides of every line in turn.
+pub fn sample(lines: &mut [Line], samples: usize) {
+    for _ in 0..samples {
+        for line in &mut *lines {
+            line.rust.sample();
+            if let Some(side) = &mut line.librabbitmq {
+                side.sample();
+            }
+            line.port.sample();
+        }
+    }
+}
+
+pub fn print(lines: Vec<Line>) {
+    println!("| {:<42} | octets | Rust, ns | librabbitmq, ns | port, ns | Rust/port | librabbitmq/port |", "");
+    println!("|{:-<44}|-------:|---------:|----------------:|---------:|----------:|-----------------:|", "");
+    for line in lines {
+        let (rust, port) = (line.rust.best, line.port.best);
+        let (other, ratio) = match line.librabbitmq {
+            Some(side) => (format!("{:.0}", side.best), format!("{:.2}", side.best / port)),
+            None => ("-".to_string(), "-".to_string()),
+        };
+        let ratios = format!("{:>9.2} | {ratio:>16}", rust / port);
+        println!("| {:<42} | {:>6} | {rust:>8.0} | {other:>15} | {port:>8.0} | {ratios} |", line.what, line.octets);
+    }
+}
+
 pub fn run(samples: usize) {
     let tables = [
         ("the recorded headers, 19 entries", recorded()),
@@ -177,25 +204,7 @@ pub fn run(samples: usize) {
         .enumerate()
         .flat_map(|(slot, (what, entries))| lines(slot, what, entries))
         .collect();
-    for _ in 0..samples {
-        for line in &mut all {
-            line.rust.sample();
-            if let Some(side) = &mut line.librabbitmq {
-                side.sample();
-            }
-            line.port.sample();
-        }
-    }
-    println!("| {:<38} | octets | Rust, ns | librabbitmq, ns | port, ns | Rust/port | librabbitmq/port |", "");
-    println!("|{:-<40}|-------:|---------:|----------------:|---------:|----------:|-----------------:|", "");
+    sample(&mut all, samples);
     all.sort_by_key(|line| line.what.starts_with("write"));
-    for line in all {
-        let (rust, port) = (line.rust.best, line.port.best);
-        let (other, ratio) = match line.librabbitmq {
-            Some(side) => (format!("{:.0}", side.best), format!("{:.2}", side.best / port)),
-            None => ("-".to_string(), "-".to_string()),
-        };
-        let ratios = format!("{:>9.2} | {ratio:>16}", rust / port);
-        println!("| {:<38} | {:>6} | {rust:>8.0} | {other:>15} | {port:>8.0} | {ratios} |", line.what, line.octets);
-    }
+    print(all);
 }
