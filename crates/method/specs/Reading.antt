@@ -118,13 +118,13 @@ abbrev pub propertiesAt : Letters → ℕ → ℕ → ℕ → List ℕ → ℕ �
 propertiesAt letters c n flags s p room =
     andThen (fieldsAt letters (select (flagsOf 13 flags) properties) s p room) (λ vs q. given (header c n (flagsOf 13 flags) vs) q)
 
--- behind class, weight, body size and flags; weight, flags 2 to 0 and what follows are ignored
+-- behind body size and flags; flags 2 to 0 and what follows are ignored
+abbrev pub sizedAt : Letters → ℕ → List ℕ → ℕ → ℕ → Answer (Header Located)
+sizedAt letters c s p room = andThen (uintAt 8 s p) (λ n q. andThen (uintAt 2 s q) (λ flags r. propertiesAt letters c n (flags / 8) s r room))
+
+-- behind class and weight, which is ignored too
 unfoldable pub headerAt : Letters → List ℕ → ℕ → ℕ → Answer (Header Located)
-headerAt letters s p room =
-    andThen (uintAt 2 s p)
-    (λ c q.
-    andThen (uintAt 2 s q)
-    (λ weight r. andThen (uintAt 8 s r) (λ n t. andThen (uintAt 2 s t) (λ flags u. propertiesAt letters c n (flags / 8) s u room))))
+headerAt letters s p room = andThen (uintAt 2 s p) (λ c q. andThen (uintAt 2 s q) (λ weight r. sizedAt letters c s r room))
 
 -- What is returned of what is located, with its tape records
 

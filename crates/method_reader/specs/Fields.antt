@@ -3,11 +3,10 @@ use mathlib.Core.Path.{_≡_}
 use mathlib.Core.Bool.{Bool, cond}
 use mathlib.Core.Option.{Option, none, some}
 use mathlib.Core.List.{List, [], _∷_}
-use Prim.Native.Nat.{ℕ, _+_, _^_, _/_, _%_}
+use Prim.Native.Nat.{ℕ, _+_, _^_, _%_}
 use lib.Dec.{eqb}
 use Rattle.bits.specs.Flags.{packBits}
 use Rattle.types.specs.Answer.{Answer, given, refused, andThen}
-use Rattle.types.specs.Octets.{uintAt}
 use Rattle.types.specs.Memory.{splice, Outcome, outcome}
 use Rattle.tables.specs.Letters.{Letters}
 use Rattle.tables.specs.Forest.{size}
@@ -15,7 +14,7 @@ use Rattle.tables.specs.Tape.{WithCount, roomOf, fillTape, readTable}
 use Rattle.method.specs.Fields.{Kind, number, shortStr, bits, login, table, Field, fixed, arg, Located, Returned, Args}
 use Rattle.method.specs.Commands.{known, fieldsOf, Command, call}
 use Rattle.method.specs.Properties.{Header}
-use Rattle.method.specs.Reading.{argAt, fixedAt, fieldsAt, argumentsAt, propertiesAt, returnedArg, returnedArgs, used, commandWithTape, headerWithTape}
+use Rattle.method.specs.Reading.{argAt, fixedAt, fieldsAt, argumentsAt, propertiesAt, sizedAt, returnedArg, returnedArgs, used, commandWithTape, headerWithTape}
 use Rattle.method.specs.Words.{argWords, argsWords, argsFrom}
 use Rattle.method_reader.specs.declared.fields.TablePlace.{TablePlace}
 use Rattle.method_reader.specs.declared.fields.ReadField.{ReadField}
@@ -96,10 +95,7 @@ readProperties letters c n flags s at used tape =
 
 unfoldable pub readSized : Letters → ℕ → List ℕ → ℕ → ℕ → List ℕ → Outcome (WithCount (Header Returned))
 readSized letters c s at used tape =
-    fillTape used tape
-    (andThen
-    (andThen (uintAt 8 s at) (λ n t. andThen (uintAt 2 s t) (λ flags u. propertiesAt letters c n (flags / 8) s u (roomOf used tape))))
-    (λ x q. given (headerWithTape x) q))
+    fillTape used tape (andThen (sizedAt letters c s at (roomOf used tape)) (λ x q. given (headerWithTape x) q))
 
 -- no table yet
 abbrev pub noTable : TablePlace
