@@ -19,7 +19,8 @@ use Rattle.method.specs.Writing.{placed, sentArgsMeaning, sentCommandMeaning, f
 use Rattle.frame.specs.Frame.{frameAt, decodeAt, frameOctets}
 use Rattle.frame.specs.Step as step
 use Rattle.frame.specs.Step.{frameWithPayloadAt, stepAt}
-use Rattle.frame.specs.Senders.{framePayloadOctets}
+use Rattle.method.specs.Pooled.{sentArgs}
+use Rattle.frame.specs.Writing.{framePayloadOctets}
 use Rattle.frame.specs.Bench.{ack, persistent, loginOf, BenchSheet}
 
 -- what either login writes
@@ -35,7 +36,7 @@ unfolding sentArgsMeaning fieldOctets commandOctets commands fieldsOf loginOf oc
 second-15 = refl
 
 pub bench-sheet : BenchSheet
-unfolding character faultFrom fault utf8 numberAt uintAt spanAt longStrAt shortStrAt splice writeAt firstRecords kindOf size meaningOf leafAt nameAt entriesWithFuel entriesAt containerAt payloadAt valueWith valueAt tableAt loneValueAt flatten unflatten body judgeRecord judgeWithFuel judgeRecords judgeLoneValue tapeMeaning writeLoneValue commands fieldsOf properties select placed sentArgsMeaning fieldOctets commandOctets headerOctets judgeArgs judgeLengths headerRefusal writeHeader frameAt decodeAt frameOctets step.payloadAt frameWithPayloadAt stepAt framePayloadOctets ack persistent loginOf
+unfolding sentArgs character faultFrom fault utf8 numberAt uintAt spanAt longStrAt shortStrAt splice writeAt firstRecords kindOf size meaningOf leafAt nameAt entriesWithFuel entriesAt containerAt payloadAt valueWith valueAt tableAt loneValueAt flatten unflatten body judgeRecord judgeWithFuel judgeRecords judgeLoneValue tapeMeaning writeLoneValue commands fieldsOf properties select placed sentArgsMeaning fieldOctets commandOctets headerOctets judgeArgs judgeLengths headerRefusal writeHeader frameAt decodeAt frameOctets step.payloadAt frameWithPayloadAt stepAt framePayloadOctets ack persistent loginOf
 bench-sheet =
     record {
       line-1 = refl;

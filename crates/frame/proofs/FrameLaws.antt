@@ -23,7 +23,8 @@ use Rattle.method.proofs.Bounds.{command-within, header-within}
 use Rattle.method.proofs.MethodLaws.{FitCommand, FitHeader, placeCommand, placeHeader, command-here, header-here, command-size, header-size, command-meaning, header-meaning}
 use Rattle.frame.specs.Frame.{isFrameType, frameEnd, Frame, frameAt, decodeAt, frameOctets}
 use Rattle.frame.specs.Step.{Payload, command, header, body, heartbeat, FrameOf, payloadWithTape, payloadAt, frameWithPayloadAt, stepAt, walkStepAt, framePayloadMeaning, frameMeaning}
-use Rattle.frame.specs.Senders.{FrameMeaning, typeOf, valuesOf, framePayloadOctets}
+use Rattle.frame.specs.Writing.{FrameMeaning, typeOf, framePayloadOctets, octetsOfMeaning}
+use Rattle.frame.specs.Senders.{valuesOf}
 
 -- an octet that is written is there
 octet-here : {s : List ℕ} {p : ℕ} (n : ℕ) → n < 256 → Stands s p (octets 1 n) → getD s p 0 ≡ n
@@ -33,8 +34,8 @@ octet-here n h st = stands-octet (n % 256) st ∙ omega arith
 
 -- what a frame that is decoded says
 pub record Decoded (s : List ℕ) (p : ℕ) (f : Frame) (n : ℕ) : Type 0 where
-  pub start : f .start ≡ p + 7
-  pub past : n ≡ p + f .size + 8
+  pub start : f .payload .start ≡ p + 7
+  pub past : n ≡ p + f .payload .len + 8
   pub inside : n ≤ length s
   pub known : isFrameType (f .type) ≡ true
 
@@ -83,7 +84,7 @@ unfolding frameOctets
 frame-length t ch P = omega (arith, length-append P (frameEnd ∷ []))
 
 unfoldable pub placeDecoded : ℕ → ℕ → ℕ → ℕ → Frame
-placeDecoded p t ch n = record { type = t; channel = ch; start = p + 7; size = n }
+placeDecoded p t ch n = record { type = t; channel = ch; payload = record { start = p + 7; len = n } }
 
 pub decode-here : {s : List ℕ} {p : ℕ} (t ch : ℕ) (P : List ℕ) → t < 256 → isFrameType t ≡ true → ch < 256 ^ 2 → length P < 256 ^ 4 → Stands s p (frameOctets t ch P)
     → decodeAt s p ≡ given (placeDecoded p t ch (length P)) (p + length (frameOctets t ch P))
@@ -101,7 +102,7 @@ decode-here {s} {p} t ch P ht hk hc hl h =
       stands-octet frameEnd (q .end),
       number-value 2 ch hc (q .channel),
     )
-    (ap (given (record { type = t; channel = ch; start = p + 7; size = length P })) (omega arith))
+    (ap (given (record { type = t; channel = ch; payload = record { start = p + 7; len = length P } })) (omega arith))
 
 pub decode-cut : {s : List ℕ} {p : ℕ} (t ch : ℕ) (P : List ℕ) → t < 256 → isFrameType t ≡ true → length P < 256 ^ 4 → Cut s p (frameOctets t ch P) → decodeAt s p ≡ refused truncated
 unfolding decodeAt frameAt frameOctets
@@ -194,14 +195,11 @@ module _ (letters : Letters) where
 
   -- The walk's step
 
-  abbrev pub octetsOfMeaning : FrameMeaning → List ℕ
-  octetsOfMeaning f = frameOctets (typeOf (f .payload)) (f .channel) (framePayloadOctets letters (f .payload))
-
   unfoldable pub placeFrame : ℕ → FrameMeaning → WithTape (FrameOf Returned Span)
   placeFrame p f = payloadWithTape (f .channel) (placePayload (p + 7) (f .payload))
 
-  pub step-here : {s : List ℕ} {p : ℕ} (f : FrameMeaning) (slots room : ℕ) → FitFrame f → zero < slots → valuesOf (f .payload) ≤ room → Stands s p (octetsOfMeaning f)
-      → walkStepAt letters s p slots room ≡ given (placeFrame p f) (p + length (octetsOfMeaning f))
+  pub step-here : {s : List ℕ} {p : ℕ} (f : FrameMeaning) (slots room : ℕ) → FitFrame f → zero < slots → valuesOf (f .payload) ≤ room → Stands s p (octetsOfMeaning letters f)
+      → walkStepAt letters s p slots room ≡ given (placeFrame p f) (p + length (octetsOfMeaning letters f))
   unfolding walkStepAt frameWithPayloadAt placeDecoded placeFrame
   step-here {s} {p} f slots room a hs hv h =
       let P = framePayloadOctets letters (f .payload) in
@@ -212,12 +210,12 @@ module _ (letters : Letters) where
         payload-here (f .payload) room (a .1) hv (stands-within P (q .payload)) (length-take-le (p + 7 + length P) s (q .payload .fits)),
       )
 
-  pub step-cut : {s : List ℕ} {p : ℕ} (f : FrameMeaning) (slots room : ℕ) → FitFrame f → Cut s p (octetsOfMeaning f) → walkStepAt letters s p slots room ≡ refused truncated
+  pub step-cut : {s : List ℕ} {p : ℕ} (f : FrameMeaning) (slots room : ℕ) → FitFrame f → Cut s p (octetsOfMeaning letters f) → walkStepAt letters s p slots room ≡ refused truncated
   unfolding walkStepAt
   step-cut f slots room a c =
       rw (decode-cut (typeOf (f .payload)) (f .channel) (framePayloadOctets letters (f .payload)) (type-octet (f .payload)) (type-known (f .payload)) (a .2) c)
 
-  pub frame-meaning : {s : List ℕ} {p : ℕ} (f : FrameMeaning) → FitFrame f → Stands s p (octetsOfMeaning f)
+  pub frame-meaning : {s : List ℕ} {p : ℕ} (f : FrameMeaning) → FitFrame f → Stands s p (octetsOfMeaning letters f)
       → frameMeaning letters s (placeFrame p f .value) (placeFrame p f .tape) ≡ f
   unfolding placeFrame
   frame-meaning {s} {p} f a h =
@@ -234,7 +232,7 @@ module _ (letters : Letters) where
       then-go (decodeAt s p) _ x n e
       (λ f m e1 h1.
       let o = need-given (ltb 0 slots) _ _ x n h1 in
-      then-go (payloadAt letters (f .type) (take (f .start + f .size) s) (f .start) room) _ x n (o .1)
+      then-go (payloadAt letters (f .type) (take (f .payload .start + f .payload .len) s) (f .payload .start) room) _ x n (o .1)
       (λ y q e2 h2.
       let k = given-next _ x m n h2 in
       let d = decode-read s p f m e1 in
@@ -273,10 +271,10 @@ module _ (letters : Letters) where
       then-go (decodeAt s p) _ x n e
       (λ f m e1 h1.
       let o = need-given (ltb 0 slots) _ _ x n h1 in
-      then-go (payloadAt letters (f .type) (take (f .start + f .size) s) (f .start) room) _ x n (o .1)
+      then-go (payloadAt letters (f .type) (take (f .payload .start + f .payload .len) s) (f .payload .start) room) _ x n (o .1)
       (λ y q e2 h2.
       let w = given-value (payloadWithTape (f .channel) y) x m n h2 in
-      rw (← w) (payload-room (f .type) (take (f .start + f .size) s) (f .start) room (f .channel) y q e2)))
+      rw (← w) (payload-room (f .type) (take (f .payload .start + f .payload .len) s) (f .payload .start) room (f .channel) y q e2)))
 
 -- Decoding, case by case
 
@@ -304,6 +302,6 @@ module _ (s : List ℕ) (p : ℕ) where
         decode-end e = rw (leb-yes (p + 7) (length s) seven, known, leb-yes (p + n + 8) (length s) there, e)
 
         pub decode-given : eqb (getD s (p + 7 + n) 0) frameEnd ≡ true
-            → decodeAt s p ≡ given (record { type = getD s p 0; channel = numberAt 2 s (p + 1); start = p + 7; size = n }) (p + n + 8)
+            → decodeAt s p ≡ given (record { type = getD s p 0; channel = numberAt 2 s (p + 1); payload = record { start = p + 7; len = n } }) (p + n + 8)
         unfolding decodeAt frameAt
         decode-given e = rw (leb-yes (p + 7) (length s) seven, known, leb-yes (p + n + 8) (length s) there, e)

@@ -1,7 +1,7 @@
 -- The theorem of the two senders holds of any two lists of frames that the writers accept: document 01, "frame.rs: frames and the walk".
 use mathlib.Core.Path.{_≡_, refl, sym, ap, _∙_}
 use mathlib.Core.Option.{none, some}
-use mathlib.Core.List.{List, [], _∷_, append-nil, IsPrefix}
+use mathlib.Core.List.{List, [], _∷_, map-map, append-nil, IsPrefix}
 use Prim.Native.Nat.{ℕ, zero, suc, _+_, _-_, _≤_}
 use native.Mathlib.Omega.{arith}
 use lib.ListN.{length, take, drop, take-append-drop}
@@ -19,14 +19,17 @@ use Rattle.tables.specs.Letters.{Letters, errata}
 use Rattle.tables.specs.Tape.{Record, tapeRecords}
 use Rattle.tables.proofs.JudgeLaws.{Octets}
 use Rattle.tables.proofs.TapeLaws.{length-concatMap, held}
-use Rattle.method.specs.Fields.{Sent, Returned}
+use Rattle.method.specs.Fields.{Returned}
+use Rattle.method.specs.Pooled.{sentCommand, sentHeader}
+use Rattle.method.proofs.PooledLaws.{command-passes, header-passes}
 use Rattle.method.proofs.MethodLaws.{command-fit, header-fit}
 use Rattle.frame.specs.Step.{Payload, command, header, body, heartbeat, FrameOf, walkStepAt}
 use Rattle.frame.specs.Walk.{Entry, registerRecords, walkFrom, walk, meaningAt, listAt, returned}
-use Rattle.frame.specs.Senders.{SentFrame, FrameMeaning, typeOf, valuesOf, Typed, NoNul, All, sentPayloadMeaning, sentFrameMeaning, framePayloadOctets, octetsOf, refusalOf, frameRefusal, Accepted, octets, endingBy, valuesIn, AtCut, TwoSenders}
+use Rattle.frame.specs.Writing.{SentFrame, FrameMeaning, typeOf, sentPayloadMeaning, sentFrameMeaning, framePayloadOctets, octetsOfMeaning, octetsOfFrame, payloadRefusal, frameRefusal}
+use Rattle.frame.specs.Senders.{valuesOf, Typed, NoNul, All, Accepted, octets, endingBy, valuesIn, AtCut, TwoSenders}
 use Rattle.frame.proofs.ListLaws as list
 use Rattle.frame.proofs.ListLaws.{Framing, Laws, two-lists, at-prefix, upTo-all}
-use Rattle.frame.proofs.FrameLaws.{FitPayload, FitFrame, placeFrame, octetsOfMeaning, frame-length, payload-size, step-here, step-cut, frame-meaning, walk-step-is}
+use Rattle.frame.proofs.FrameLaws.{FitPayload, FitFrame, placeFrame, frame-length, payload-size, step-here, step-cut, frame-meaning, walk-step-is}
 
 first-all : {R : Type 0} (C : RecordFormat R) (n : ℕ) (ws : List ℕ) → length (firstRecords C n ws) ≡ n
 unfolding firstRecords
@@ -34,28 +37,29 @@ first-all C zero ws = refl
 first-all C (suc n) ws = ap suc (first-all C n (drop (C .size) ws))
 
 module _ (letters : Letters) (octet : Octets letters) where
-  payload-fit : (x : Payload Sent (List ℕ)) → Typed x → refusalOf letters x ≡ none → NoNul x → FitPayload letters (sentPayloadMeaning letters x)
-  payload-fit (command x) t e z = command-fit letters octet x t e z
-  payload-fit (header x) t e z = header-fit letters octet x t e
-  payload-fit (body xs) t e z = tt
-  payload-fit heartbeat t e z = tt
+  payload-fit : (pool tape : List ℕ) (x : Payload Returned Span) → Typed letters pool tape x → payloadRefusal letters pool tape x ≡ none → NoNul letters pool tape x
+      → FitPayload letters (sentPayloadMeaning letters pool tape x)
+  payload-fit pool tape (command x) t e z = command-fit letters octet (sentCommand letters pool tape x) t (command-passes letters pool tape x e) z
+  payload-fit pool tape (header x) t e z = header-fit letters octet (sentHeader letters pool tape x) t (header-passes letters pool tape x e)
+  payload-fit pool tape (body v) t e z = tt
+  payload-fit pool tape heartbeat t e z = tt
 
   accepted-fit : (f : SentFrame) → Accepted letters f → FitFrame letters (sentFrameMeaning letters f)
   unfolding frameRefusal
   accepted-fit f a =
-      let P = length (framePayloadOctets letters (sentPayloadMeaning letters (f .payload))) in
-      let b = orElse-none (refusalOf letters (f .payload)) (judgeLength P) (a .passes) in
+      let P = length (framePayloadOctets letters (sentFrameMeaning letters f .payload)) in
+      let b = orElse-none (payloadRefusal letters (f .pool) (f .tape) (f .payload)) (judgeLength P) (a .passes) in
       let l = yes-leb P 4294967295 ((test-none (leb P 4294967295) tooLong none (b .1)) .0) in
-      (a .channel, payload-fit (f .payload) (a .typed) (b .0) (a .noNul), omega arith)
+      (a .channel, payload-fit (f .pool) (f .tape) (f .payload) (a .typed) (b .0) (a .noNul), omega arith)
 
   -- the senders' frames, and that they meet the laws
   sent : Framing SentFrame (FrameOf Returned Span) FrameMeaning
   sent =
       record {
         Accepted = Accepted letters;
-        octetsOf = octetsOf letters;
+        octetsOf = octetsOfFrame letters;
         meaning = sentFrameMeaning letters;
-        cost = λ f. valuesOf (sentPayloadMeaning letters (f .payload));
+        cost = λ f. valuesOf (sentFrameMeaning letters f .payload);
         step = walkStepAt letters;
         view = meaningAt letters;
       }
@@ -66,9 +70,9 @@ module _ (letters : Letters) (octet : Octets letters) where
       record {
         frame = λ p used f. placeFrame letters p (sentFrameMeaning letters f) .value;
         recs = λ p f. placeFrame letters p (sentFrameMeaning letters f) .tape;
-        some-octet = λ f. omega (arith, frame-length (typeOf (sentPayloadMeaning letters (f .payload))) (f .channel) (framePayloadOctets letters (sentPayloadMeaning letters (f .payload))));
+        some-octet = λ f. omega (arith, frame-length (typeOf (sentFrameMeaning letters f .payload)) (f .channel) (framePayloadOctets letters (sentFrameMeaning letters f .payload)));
         same = λ f g e. ap (octetsOfMeaning letters) e;
-        costs = λ p f. payload-size letters (sentPayloadMeaning letters (f .payload)) (f .channel) (p + 7);
+        costs = λ p f. payload-size letters (sentFrameMeaning letters f .payload) (f .channel) (p + 7);
         reads = λ f a s p slots room used h hs hv. step-here letters (sentFrameMeaning letters f) slots room (accepted-fit f a) hs hv h;
         views = λ f a s p used h. ap some (frame-meaning letters (sentFrameMeaning letters f) (accepted-fit f a) h);
         stops = λ f a s p slots room used c. step-cut letters (sentFrameMeaning letters f) slots room (accepted-fit f a) c;
@@ -101,7 +105,7 @@ module _ (letters : Letters) (octet : Octets letters) where
       (held tapeRecords (λ r. refl) (λ r. refl) (w .tape) tape (recordCount tapeRecords (splice 0 tw tape)) (rw same-tape tape-fits)) in
       let all : take (length (w .register)) es ≡ es = take-all (length (w .register)) es (omega (arith, first-all registerRecords (length (w .register)) (splice 0 rw′ register))) in
       record {
-        list = list-is s rs es ∙ sym (ap (list.returned sent s rs) all) ∙ b .gives;
+        list = list-is s rs es ∙ sym (ap (list.returned sent s rs) all) ∙ b .gives ∙ sym (map-map some (sentFrameMeaning letters) (endingBy letters (length s) xs));
         frames = a .frames;
         consumed = a .consumed;
         refusal = a .refusal;

@@ -20,7 +20,7 @@ use Rattle.method.specs.Properties.{properties, select, Header, header}
 use Rattle.method.specs.Writing.{sentCommandMeaning, commandOctets, writeHeader}
 use Rattle.frame.specs.Frame.{decodeAt}
 use Rattle.frame.specs.Step.{command, heartbeat, stepAt}
-use Rattle.frame.specs.Senders.{SentFrame, octetsOf}
+use Rattle.frame.specs.Writing.{SentFrame, octetsOfFrame}
 
 -- a table of one entry "a", whose name is the octet at 5, with a letter and a number
 abbrev pub one : ℕ → ℕ → LocatedTable
@@ -36,7 +36,7 @@ tapeOf letter n = letter ∷ 0 ∷ 0 ∷ n ∷ 0 ∷ 0 ∷ []
 -- Ack 5, multiple, channel 1
 unfoldable pub ack : SentFrame
 unfolding commands fieldsOf
-ack = record { channel = 1; payload = command (call 60 80 (5, ((true ∷ []), tt))) }
+ack = record { channel = 1; payload = command (call 60 80 (5, ((true ∷ []), tt))); pool = []; tape = [] }
 
 -- delivery-mode 2 alone
 unfoldable pub persistent : Header Sent
@@ -70,7 +70,7 @@ pub record BenchSheet : Type 0 where
   pub line-6 : decodeAt (9 ∷ zeros 6) 0 ≡ refused (unsupportedFieldType 9)
   pub line-7 : stepAt errata (8 ∷ zeros 6 ++ (206 ∷ [])) 0 0 ≡ given (record { value = record { channel = 0; payload = heartbeat }; tape = [] }) 8
   pub line-8 : decodeAt (8 ∷ zeros 6 ++ (205 ∷ [])) 0 ≡ refused (unsupportedFieldType 205)
-  pub line-9 : octetsOf errata ack ≡ 1 ∷ 0 ∷ 1 ∷ 0 ∷ 0 ∷ 0 ∷ 13 ∷ 0 ∷ 60 ∷ 0 ∷ 80 ∷ 0 ∷ 0 ∷ 0 ∷ 0 ∷ 0 ∷ 0 ∷ 0 ∷ 5 ∷ 1 ∷ 206 ∷ []
+  pub line-9 : octetsOfFrame errata ack ≡ 1 ∷ 0 ∷ 1 ∷ 0 ∷ 0 ∷ 0 ∷ 13 ∷ 0 ∷ 60 ∷ 0 ∷ 80 ∷ 0 ∷ 0 ∷ 0 ∷ 0 ∷ 0 ∷ 0 ∷ 0 ∷ 5 ∷ 1 ∷ 206 ∷ []
   pub line-10 : tableAt errata (0 ∷ 0 ∷ 0 ∷ 2 ∷ 1 ∷ 97 ∷ 116 ∷ 1 ∷ []) 0 1 ≡ given (one 116 1) 8
   pub line-11 : (loneValueAt errata (116 ∷ 2 ∷ []) 0 1 ≡ given (alone 116 1) 2) × (writeLoneValue errata [] (tapeOf 116 1) 0 (zeros 2) ≡ outcome (given tt 2) (116 ∷ 1 ∷ []))
   pub line-12 : (loneValueAt errata (102 ∷ 127 ∷ 192 ∷ 0 ∷ 1 ∷ []) 0 1 ≡ given (alone 102 2143289345) 5)

@@ -2,6 +2,7 @@
 pub mod Frame
 pub mod Step
 pub mod Walk
+pub mod Writing
 pub mod Senders
 pub mod AnswerOf
 pub mod Bench

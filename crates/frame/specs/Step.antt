@@ -6,10 +6,11 @@ use Prim.Native.Nat.{ℕ, _+_, _-_}
 use lib.ListN.{length, take}
 use lib.Dec.{leb, ltb, eqb}
 use Rattle.types.specs.Answer.{Answer, given, notWritten, tapeFull, andThen, need}
+use Rattle.types.specs.Memory.{Outcome}
 use Rattle.types.specs.Strings.{octetsOf}
 use Rattle.types.specs.declared.Span.{Span}
 use Rattle.tables.specs.Letters.{Letters}
-use Rattle.tables.specs.Tape.{Record, WithTape}
+use Rattle.tables.specs.Tape.{Record, WithTape, WithCount, roomOf, fillTape}
 use Rattle.method.specs.Fields.{Kind, Meaning, Located, Returned}
 use Rattle.method.specs.Commands.{Command}
 use Rattle.method.specs.Properties.{Header}
@@ -47,10 +48,14 @@ module _ (letters : Letters) where
   -- the frame f with its payload read: the payload's readers are given the octets up to its end, so that places count from the first octet
   unfoldable pub frameWithPayloadAt : List ℕ → Frame → ℕ → ℕ → Answer (WithTape (FrameOf Returned Span))
   frameWithPayloadAt s f next room =
-      andThen (payloadAt (f .type) (take (f .start + f .size) s) (f .start) room) (λ x q. given (payloadWithTape (f .channel) x) next)
+      andThen (payloadAt (f .type) (take (f .payload .start + f .payload .len) s) (f .payload .start) room) (λ x q. given (payloadWithTape (f .channel) x) next)
 
   unfoldable pub stepAt : List ℕ → ℕ → ℕ → Answer (WithTape (FrameOf Returned Span))
   stepAt s p room = andThen (decodeAt s p) (λ f next. frameWithPayloadAt s f next room)
+
+  -- the step onto the records behind the used ones, with all of the tape at exit
+  unfoldable pub readFrame : List ℕ → ℕ → ℕ → List ℕ → Outcome (WithCount (FrameOf Returned Span))
+  readFrame s at used tape = fillTape used tape (stepAt s at (roomOf used tape))
 
   -- the walk's step: its register is judged when the frame is decoded, before its payload
   unfoldable pub walkStepAt : List ℕ → ℕ → ℕ → ℕ → Answer (WithTape (FrameOf Returned Span))

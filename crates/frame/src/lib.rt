@@ -1,10 +1,15 @@
-// Frames and the walk: the protocol header, and the types of frames and of the readers' answers.
+// Frames: the protocol header, the frame types, a frame's place in octets, and what its payload holds.
+ghost use mathlib.Core.Path.{_≡_};
+ghost use Rattle.frame.specs.Frame.{knownType};
+ghost use Rattle.frame.specs.AnswerOf.{typeOctet, typeOfKnown};
 use method::Command;
 use method::ContentHeader;
 use types::Span;
-use types::WireError;
 
+// What a client sends first: "AMQP", 0, 0, 9, 1.
 pub const PROTOCOL_HEADER: [u8; 8] = [65, 77, 81, 80, 0, 0, 9, 1];
+
+pub const FRAME_END: u8 = 0xCE;
 
 pub enum FrameType {
     Method,
@@ -13,43 +18,48 @@ pub enum FrameType {
     Heartbeat,
 }
 
+pub enum KnownType {
+    Known(FrameType),
+    Unknown,
+}
+
+impl FrameType {
+    pub fn from_u8(v: u8) -> KnownType
+        ensures { λ r. ⌜ typeOfKnown r ≡ knownType v ⌝ }
+    {
+        match v {
+            1 => KnownType::Known(FrameType::Method),
+            2 => KnownType::Known(FrameType::Header),
+            3 => KnownType::Known(FrameType::Body),
+            8 => KnownType::Known(FrameType::Heartbeat),
+            _ => KnownType::Unknown,
+        }
+    }
+
+    pub fn octet(self) -> u8
+        ensures { λ r. ⌜ r ≡ typeOctet self ⌝ }
+    {
+        match self {
+            FrameType::Method => 1,
+            FrameType::Header => 2,
+            FrameType::Body => 3,
+            FrameType::Heartbeat => 8,
+        }
+    }
+}
+
+// A frame in lent octets: its payload is a span of them.
 pub struct Frame {
     pub frame_type: FrameType,
     pub channel: u16,
-    pub start: usize,
-    pub size: usize,
+    pub payload: Span,
 }
 
-pub enum Decoded {
-    Value(Frame, usize),
-    Refused(WireError),
-}
-
+// What a payload holds. The reading step returns it and the frame writer takes it: strings and bodies are spans of a lent pool,
+// which is the input when reading, and a table is records of a lent tape.
 pub enum Payload {
     Command(Command),
     Header(ContentHeader),
     Body(Span),
     Heartbeat,
-}
-
-// A frame that was read, the number of its tape records, and the next position.
-pub enum ReadFrame {
-    Value {
-        channel: u16,
-        payload: Payload,
-        records: usize,
-        next: usize,
-    },
-    Refused(WireError),
-}
-
-pub enum Stop {
-    None,
-    Refused(WireError),
-}
-
-pub struct Walked {
-    pub frames: usize,
-    pub consumed: usize,
-    pub refusal: Stop,
 }

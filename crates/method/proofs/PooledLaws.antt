@@ -12,8 +12,10 @@ use Rattle.types.proofs.Chain.{test-none, orElse-none}
 use Rattle.tables.specs.Letters.{Letters}
 use Rattle.tables.specs.Writing.{inPool}
 use Rattle.method.specs.Fields.{Kind, number, shortStr, bits, login, table, Field, fixed, arg, Returned, Args}
-use Rattle.method.specs.Writing.{judgeArg, judgeArgs}
-use Rattle.method.specs.Pooled.{sentArg, sentArgs, judgeText, judgeReturned, judgePooled}
+use Rattle.method.specs.Commands.{fieldsOf, Command, call}
+use Rattle.method.specs.Properties.{properties, select, Header, header}
+use Rattle.method.specs.Writing.{judgeArg, judgeArgs, judgeLengths, sentArgsMeaning, refusalOf, commandRefusal, headerRefusal}
+use Rattle.method.specs.Pooled.{sentArg, sentArgs, sentCommand, sentHeader, judgeText, judgeReturned, judgePooled, refusalPooled, commandRefusalPooled, headerRefusalPooled}
 
 module _ (letters : Letters) (pool tape : List ℕ) where
   span-passes : (v : Span) (more : Option Refusal) → test (inPool pool (v .start) (v .len)) truncated more ≡ none → more ≡ none
@@ -37,3 +39,16 @@ module _ (letters : Letters) (pool tape : List ℕ) where
   pooled-passes (arg k ∷ fs) vs e =
       let a = orElse-none (judgeReturned letters pool tape k (vs .0)) (judgePooled letters pool tape fs (vs .1)) e in
       rw (arg-passes k (vs .0) (a .0)) (pooled-passes fs (vs .1) (a .1))
+
+  fields-pass : (fs : List Field) (vs : Args Returned fs) → refusalPooled letters pool tape fs vs ≡ none → refusalOf letters fs (sentArgs letters pool tape fs vs) ≡ none
+  fields-pass fs vs e =
+      let a = orElse-none (judgePooled letters pool tape fs vs) (judgeLengths letters fs (sentArgsMeaning letters fs (sentArgs letters pool tape fs vs))) e in
+      rw (pooled-passes fs vs (a .0)) (a .1)
+
+  pub command-passes : (x : Command Returned) → commandRefusalPooled letters pool tape x ≡ none → commandRefusal letters (sentCommand letters pool tape x) ≡ none
+  unfolding commandRefusal
+  command-passes (call c m vs) e = fields-pass (fieldsOf c m) vs e
+
+  pub header-passes : (x : Header Returned) → headerRefusalPooled letters pool tape x ≡ none → headerRefusal letters (sentHeader letters pool tape x) ≡ none
+  unfolding headerRefusal
+  header-passes (header c n present vs) e = fields-pass (select present properties) vs e

@@ -12,7 +12,7 @@ use Rattle.writers.specs.Writers.{writeAt}
 use Rattle.types.specs.declared.Span.{Span}
 use Rattle.tables.specs.Letters.{Letters}
 use Rattle.tables.specs.Writing.{inPool, judgeTable}
-use Rattle.method.specs.Fields.{Kind, number, shortStr, bits, login, table, Field, fixed, arg, Sent, Returned, Args}
+use Rattle.method.specs.Fields.{Kind, number, shortStr, bits, login, table, Field, fixed, arg, Meaning, Sent, Returned, Args}
 use Rattle.method.specs.Commands.{fieldsOf, Command, call}
 use Rattle.method.specs.Properties.{properties, select, Header, header}
 use Rattle.method.specs.Writing.{sentArgsMeaning, sentCommandMeaning, sentHeaderMeaning, commandOctets, headerOctets, judgeLengths}
@@ -60,10 +60,22 @@ module _ (letters : Letters) (pool tape : List ℕ) where
   abbrev pub refusalPooled : (fs : List Field) → Args Returned fs → Option Refusal
   refusalPooled fs vs = orElse (judgePooled fs vs) (judgeLengths letters fs (sentArgsMeaning letters fs (sentArgs fs vs)))
 
+  -- a command and a header: what their writers refuse, given space enough, and their octets
+
+  abbrev pub commandRefusalPooled : Command Returned → Option Refusal
+  commandRefusalPooled (call c m vs) = refusalPooled (fieldsOf c m) vs
+
+  abbrev pub headerRefusalPooled : Header Returned → Option Refusal
+  headerRefusalPooled (header c n present vs) = refusalPooled (select present properties) vs
+
+  abbrev pub pooledCommandMeaning : Command Returned → Command Meaning
+  pooledCommandMeaning x = sentCommandMeaning letters (sentCommand x)
+
+  abbrev pub pooledHeaderMeaning : Header Returned → Header Meaning
+  pooledHeaderMeaning x = sentHeaderMeaning letters (sentHeader x)
+
   unfoldable pub writeCommandPooled : Command Returned → ℕ → List ℕ → Outcome Unit
-  writeCommandPooled (call c m vs) at out =
-      writeAt (refusalPooled (fieldsOf c m) vs) (commandOctets letters (sentCommandMeaning letters (sentCommand (call c m vs)))) at out
+  writeCommandPooled x at out = writeAt (commandRefusalPooled x) (commandOctets letters (pooledCommandMeaning x)) at out
 
   unfoldable pub writeHeaderPooled : Header Returned → ℕ → List ℕ → Outcome Unit
-  writeHeaderPooled (header c n present vs) at out =
-      writeAt (refusalPooled (select present properties) vs) (headerOctets letters (sentHeaderMeaning letters (sentHeader (header c n present vs)))) at out
+  writeHeaderPooled x at out = writeAt (headerRefusalPooled x) (headerOctets letters (pooledHeaderMeaning x)) at out

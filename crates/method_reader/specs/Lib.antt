@@ -2,3 +2,4 @@
 pub mod Fields
 pub mod AnswerOf
 pub mod Properties
+pub mod FixedFields

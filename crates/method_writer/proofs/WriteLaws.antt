@@ -1,6 +1,7 @@
--- The two passes together: from what the first answers of some fields to the answer and the output at exit, with any octets before them.
+-- From what the first pass answers of some fields, with any octets before them: their size, and after both passes the answer and the output at exit.
 use mathlib.Core.Path.{_≡_, refl, sym, ap, _∙_}
 use mathlib.Core.Bool.{Bool, true, false, not}
+use mathlib.Core.Logic.{_⊎_, inl, inr}
 use mathlib.Core.Option.{Option, none, some}
 use mathlib.Core.List.{List, [], _∷_, _++_, map, append-assoc}
 use Prim.Native.Nat.{ℕ, zero, suc, _+_, _-_, _*_, _^_, _%_, _≤_, _<_}
@@ -20,13 +21,14 @@ use Rattle.writers.specs.Writers.{writeAt, writeUint}
 use Rattle.writers.proofs.WriterLaws.{write-full, write-given}
 use Rattle.tables.specs.Letters.{Letters, errata}
 use Rattle.tables.specs.Writing.{body}
+use Rattle.table_writer.specs.Sizes as payload
 use Rattle.table_writer.specs.Emitting.{nextOr, Emitted}
 use Rattle.table_writer.proofs.EmitLaws.{number-emitted, emitted-length, emitted-after}
 use Rattle.method.specs.Fields.{Kind, number, shortStr, bits, login, table, Field, fixed, arg, Meaning, Returned, Args}
 use Rattle.method.specs.Commands.{commands, fieldsIn, known, fieldsOf, Command}
 use Rattle.method.specs.Properties.{properties, select, flagsNumber, flagsOf, Header}
 use Rattle.method.specs.Writing.{loginText, commandOctets, headerOctets, fieldOctets, judgeArgLength, judgeLengths}
-use Rattle.method.specs.Pooled.{judgePooled, refusalPooled, writeCommandPooled, writeHeaderPooled}
+use Rattle.method.specs.Pooled.{judgePooled, refusalPooled, commandRefusalPooled, headerRefusalPooled, pooledCommandMeaning, pooledHeaderMeaning, writeCommandPooled, writeHeaderPooled}
 use Rattle.method.specs.Words.{width, widths, argsFrom, commandFrom, headerFrom}
 use Rattle.method.specs.Layout.{fieldOf, layoutFields}
 use Rattle.method.specs.declared.layout.Layout.{Layout}
@@ -77,41 +79,69 @@ module _ (letters : Letters) (pool tape : List ℕ) (fs : List Field) (ws : List
   abbrev lengths : Option Refusal
   lengths = judgeLengths letters fs (argsMeaning letters pool tape fs ws)
 
+  abbrev refusalHere : Option Refusal
+  refusalHere = refusalPooled letters pool tape fs (argsFrom fs ws)
+
+  refused-here : (r : Refusal) → refused r ≡ fieldsSize letters pool tape fs ws → refusalHere ≡ some r
+  unfolding fieldsSize octetsOfAll
+  refused-here r e = go judged lengths e
+    where
+      go : (a l : Option Refusal) → refused r ≡ sized a l (length fieldsHere) → orElse a l ≡ some r
+      go (some q) l h = let same : q ≡ r = cc in ap some same
+      go none (some q) h = let z : _≡_ {A = ℕ} 0 1 = cc in absurd (omega arith)
+      go none none h = let z : _≡_ {A = ℕ} 0 1 = cc in absurd (omega arith)
+
+  long-here : long ≡ fieldsSize letters pool tape fs ws → refusalHere ≡ some tooLong
+  unfolding fieldsSize octetsOfAll
+  long-here e = go judged lengths refl e
+    where
+      go : (a l : Option Refusal) → lengths ≡ l → long ≡ sized a l (length fieldsHere) → orElse a l ≡ some tooLong
+      go (some q) l s h = let z : _≡_ {A = ℕ} 0 1 = cc in absurd (omega arith)
+      go none (some q) s h = ap some (lengths-long letters fs (argsMeaning letters pool tape fs ws) q s)
+      go none none s h = let z : _≡_ {A = ℕ} 0 1 = cc in absurd (omega arith)
+
+  octets-here : (n : ℕ) → octets n ≡ fieldsSize letters pool tape fs ws → (refusalHere ≡ none) × (n ≡ length fieldsHere)
+  unfolding fieldsSize octetsOfAll
+  octets-here n e =
+      let p = sized-octets judged lengths (length fieldsHere) n e in
+      (rw (p .0) (p .1), p .2)
+
+  module _ (head : List ℕ) where
+    whole-length : (n : ℕ) → octets n ≡ fieldsSize letters pool tape fs ws → length (head ++ fieldsHere) ≡ length head + n
+    whole-length n e = length-append head fieldsHere ∙ ap (λ (k : ℕ). length head + k) (sym (octets-here n e .1))
+
+    -- the size, with nothing written
+
+    abbrev pub sizeBehind : ℕ ⊎ Refusal
+    sizeBehind = payload.sized refusalHere (length (head ++ fieldsHere))
+
+    pub size-refused : (r : Refusal) → refused r ≡ fieldsSize letters pool tape fs ws → inr r ≡ sizeBehind
+    size-refused r e = rw (refused-here r e) refl
+
+    pub size-long : long ≡ fieldsSize letters pool tape fs ws → inr tooLong ≡ sizeBehind
+    size-long e = rw (long-here e) refl
+
+    pub size-octets : (n : ℕ) → octets n ≡ fieldsSize letters pool tape fs ws → inl (length head + n) ≡ sizeBehind
+    size-octets n e = rw (octets-here n e .0, whole-length n e) refl
+
   module _ (head : List ℕ) (at : ℕ) (out : List ℕ) where
     abbrev pub behind : Outcome Unit
-    behind = writeAt (refusalPooled letters pool tape fs (argsFrom fs ws)) (head ++ fieldsHere) at out
+    behind = writeAt refusalHere (head ++ fieldsHere) at out
 
     pub behind-refused : (r : Refusal) → refused r ≡ fieldsSize letters pool tape fs ws → outcome (answer.refused r) out ≡ behind
-    unfolding fieldsSize octetsOfAll writeAt
-    behind-refused r e = go judged lengths e
-      where
-        go : (a l : Option Refusal) → refused r ≡ sized a l (length fieldsHere) → outcome (answer.refused r) out ≡ writeAt (orElse a l) (head ++ fieldsHere) at out
-        go (some q) l h = let same : r ≡ q = cc in ap (λ (x : Refusal). outcome (answer.refused x) out) same
-        go none (some q) h = let z : _≡_ {A = ℕ} 0 1 = cc in absurd (omega arith)
-        go none none h = let z : _≡_ {A = ℕ} 0 1 = cc in absurd (omega arith)
+    unfolding writeAt
+    behind-refused r e = rw (refused-here r e) refl
 
     pub behind-long : long ≡ fieldsSize letters pool tape fs ws → outcome (answer.refused tooLong) out ≡ behind
-    unfolding fieldsSize octetsOfAll writeAt
-    behind-long e = go judged lengths refl e
-      where
-        go : (a l : Option Refusal) → lengths ≡ l → long ≡ sized a l (length fieldsHere) → outcome (answer.refused tooLong) out ≡ writeAt (orElse a l) (head ++ fieldsHere) at out
-        go (some q) l s h = let z : _≡_ {A = ℕ} 0 1 = cc in absurd (omega arith)
-        go none (some q) s h = ap (λ (x : Refusal). outcome (answer.refused x) out) (sym (lengths-long letters fs (argsMeaning letters pool tape fs ws) q s))
-        go none none s h = let z : _≡_ {A = ℕ} 0 1 = cc in absurd (omega arith)
+    unfolding writeAt
+    behind-long e = rw (long-here e) refl
 
     module _ (n : ℕ) (e : octets n ≡ fieldsSize letters pool tape fs ws) where
-      passes : (judged ≡ none) × (lengths ≡ none) × (n ≡ length fieldsHere)
-      unfolding fieldsSize octetsOfAll
-      passes = sized-octets judged lengths (length fieldsHere) n e
-
-      whole-length : length (head ++ fieldsHere) ≡ length head + n
-      whole-length = length-append head fieldsHere ∙ ap (λ (k : ℕ). length head + k) (sym (passes .2))
-
       accepted : behind ≡ writeAt none (head ++ fieldsHere) at out
-      accepted = ap (λ (a : Option Refusal). writeAt (orElse a lengths) (head ++ fieldsHere) at out) (passes .0) ∙ ap (λ (l : Option Refusal). writeAt l (head ++ fieldsHere) at out) (passes .1)
+      accepted = rw (octets-here n e .0) refl
 
       pub behind-full : length out < at + (length head + n) → outcome (answer.refused noSpace) out ≡ behind
-      behind-full h = sym (accepted ∙ write-full (head ++ fieldsHere) at out (omega (arith, whole-length)))
+      behind-full h = sym (accepted ∙ write-full (head ++ fieldsHere) at out (omega (arith, whole-length head n e)))
 
       pub behind-ready : (start : ℕ) (mid : List ℕ) → start + n ≤ length mid → Ready (fieldsSize letters pool tape fs ws) start mid
       behind-ready start mid h = rw (← e) h
@@ -119,12 +149,12 @@ module _ (letters : Letters) (pool tape : List ℕ) (fs : List Field) (ws : List
       pub behind-written : {start : ℕ} {mid after : List ℕ} → at + (length head + n) ≤ length out → Emitted head at out mid start → after ≡ splice start fieldsHere mid
           → outcome (given tt (start + n)) after ≡ behind
       behind-written {start} {mid} {after} h p m =
-          let next : start + n ≡ at + length (head ++ fieldsHere) = omega (arith, p .next, whole-length) in
+          let next : start + n ≡ at + length (head ++ fieldsHere) = omega (arith, p .next, whole-length head n e) in
           let memory : after ≡ splice at (head ++ fieldsHere) out =
           m ∙ ap (λ (i : ℕ). splice i fieldsHere mid) (p .next) ∙ ap (splice (at + length head) fieldsHere) (p .memory) ∙ splice-after at head fieldsHere out (omega arith) in
           ap (λ (k : ℕ). outcome (given tt k) after) next
           ∙ ap (outcome (given tt (at + length (head ++ fieldsHere)))) memory
-          ∙ sym (accepted ∙ write-given (head ++ fieldsHere) at out (omega (arith, whole-length)))
+          ∙ sym (accepted ∙ write-given (head ++ fieldsHere) at out (omega (arith, whole-length head n e)))
 
 -- What a test of the space says
 
@@ -174,18 +204,32 @@ module _ (pool tape : List ℕ) (x : Command Returned) (c m : ℕ) (ws : List �
   abbrev pub commandFields : List Field
   commandFields = select (flagsOf 13 8191) (map fieldOf (take (l .count) (l .fields)))
 
+  abbrev pub commandHead : List ℕ
+  commandHead = number.octets 2 c ++ number.octets 2 m
+
   command-fields : commandFields ≡ fieldsOf c m
   command-fields = all-present l c m (laid ∙ known-fields c m (is .1))
 
   pub command-room : widths commandFields ≤ 8
   command-room = rw command-fields (command-widths c m)
 
-  pub command-behind : (at : ℕ) (out : List ℕ) → behind errata pool tape commandFields ws (number.octets 2 c ++ number.octets 2 m) at out ≡ writeCommandPooled errata pool tape x at out
-  unfolding writeCommandPooled commandOctets octetsOfAll
-  command-behind at out =
+  -- its refusal and its octets, in any use of both
+  command-sent : {A : Type 0} (f : Option Refusal → List ℕ → A)
+      → f (refusalPooled errata pool tape commandFields (argsFrom commandFields ws)) (commandHead ++ fieldsHere errata pool tape commandFields ws)
+      ≡ f (commandRefusalPooled errata pool tape x) (commandOctets errata (pooledCommandMeaning errata pool tape x))
+  unfolding commandOctets octetsOfAll
+  command-sent f =
       rw (is .0, command-fields)
-      (ap (λ (xs : List ℕ). writeAt (refusalPooled errata pool tape (fieldsOf c m) (argsFrom (fieldsOf c m) ws)) xs at out)
+      (ap (f (refusalPooled errata pool tape (fieldsOf c m) (argsFrom (fieldsOf c m) ws)))
       (append-assoc (number.octets 2 c) (number.octets 2 m) (fieldOctets errata (fieldsOf c m) (argsMeaning errata pool tape (fieldsOf c m) ws))))
+
+  pub command-size : sizeBehind errata pool tape commandFields ws commandHead
+      ≡ payload.sized (commandRefusalPooled errata pool tape x) (length (commandOctets errata (pooledCommandMeaning errata pool tape x)))
+  command-size = command-sent (λ r xs. payload.sized r (length xs))
+
+  pub command-behind : (at : ℕ) (out : List ℕ) → behind errata pool tape commandFields ws commandHead at out ≡ writeCommandPooled errata pool tape x at out
+  unfolding writeCommandPooled
+  command-behind at out = command-sent (λ r xs. writeAt r xs at out)
 
 -- A content header with the properties that are present
 
@@ -221,16 +265,27 @@ module _ (pool tape : List ℕ) (x : Header Returned) (c n r : ℕ) (ws layout :
   pub header-room : widths headerFields ≤ 22
   header-room = rw laid (property-widths (flagsOf 13 r))
 
-  pub header-behind : (at : ℕ) (out : List ℕ) → behind errata pool tape headerFields ws headerHead at out ≡ writeHeaderPooled errata pool tape x at out
-  unfolding writeHeaderPooled headerOctets octetsOfAll
-  header-behind at out =
+  -- its refusal and its octets, in any use of both
+  header-sent : {A : Type 0} (f : Option Refusal → List ℕ → A)
+      → f (refusalPooled errata pool tape headerFields (argsFrom headerFields ws)) (headerHead ++ fieldsHere errata pool tape headerFields ws)
+      ≡ f (headerRefusalPooled errata pool tape x) (headerOctets errata (pooledHeaderMeaning errata pool tape x))
+  unfolding headerOctets octetsOfAll
+  header-sent f =
       let fs = select (flagsOf 13 r) properties in
       let rest = fieldOctets errata fs (argsMeaning errata pool tape fs ws) in
       let flags : r * 8 ≡ 8 * flagsNumber (flagsOf 13 r) = omega (arith, flags-number 13 r (omega arith)) in
       let size = number.octets 8 n in
       let last = number.octets 2 (8 * flagsNumber (flagsOf 13 r)) in
       rw (is, laid, flags)
-      (ap (λ (xs : List ℕ). writeAt (refusalPooled errata pool tape fs (argsFrom fs ws)) xs at out)
+      (ap (f (refusalPooled errata pool tape fs (argsFrom fs ws)))
       (append-assoc ((number.octets 2 c ++ number.octets 2 0) ++ size) last rest
       ∙ append-assoc (number.octets 2 c ++ number.octets 2 0) size (last ++ rest)
       ∙ append-assoc (number.octets 2 c) (number.octets 2 0) (size ++ (last ++ rest))))
+
+  pub header-size : sizeBehind errata pool tape headerFields ws headerHead
+      ≡ payload.sized (headerRefusalPooled errata pool tape x) (length (headerOctets errata (pooledHeaderMeaning errata pool tape x)))
+  header-size = header-sent (λ r xs. payload.sized r (length xs))
+
+  pub header-behind : (at : ℕ) (out : List ℕ) → behind errata pool tape headerFields ws headerHead at out ≡ writeHeaderPooled errata pool tape x at out
+  unfolding writeHeaderPooled
+  header-behind at out = header-sent (λ r xs. writeAt r xs at out)

@@ -1,15 +1,20 @@
-// The command writer: class and method, then the fields of their layout.
+// The command writer: class and method, then the fields of their layout. And the judgement alone.
 ghost use mathlib.Core.Path.{_≡_};
 ghost use mathlib.Core.Bool.{true};
 ghost use mathlib.Core.List.{_∷_};
+ghost use lib.ListN.{length};
 ghost use Rattle.types.specs.Memory.{outcome};
 ghost use Rattle.writers.specs.AnswerOf.{answerOfWritten};
 ghost use Rattle.tables.specs.Letters.{errata};
+ghost use Rattle.table_writer.specs.Sizes.{sized};
 ghost use Rattle.method.specs.Commands.{known};
-ghost use Rattle.method.specs.Pooled.{writeCommandPooled};
+ghost use Rattle.method.specs.Pooled.{commandRefusalPooled, pooledCommandMeaning, writeCommandPooled};
+ghost use Rattle.method.specs.Writing.{commandOctets};
 ghost use Rattle.method.specs.Words.{commandFrom};
 ghost use Rattle.method.specs.Layout.{zeros};
 ghost use Rattle.method.specs.AnswerOf.{commandOf};
+ghost use Rattle.method_writer.specs.AnswerOf.{answerOfPayloadSize};
+use crate::PayloadSize;
 use crate::emit::emit_fields;
 use crate::emit::has_space;
 use crate::emit::next_of;
@@ -192,6 +197,22 @@ fn call_of(command: Command) -> Call
         ),
         Command::ConfirmSelect { no_wait } => numbers(85, 10, no_wait as u64, 0, 0),
         Command::TxSelect => numbers(90, 10, 0, 0, 0),
+    }
+}
+
+// Judges a command as its writer does, but for the space. Nothing is written.
+pub fn judge_command(command: Command, pool: &[u8], tape: &[u64]) -> PayloadSize
+    ensures { λ r. ⌜ answerOfPayloadSize r ≡ sized (commandRefusalPooled errata (now (pool .entry)) (now (tape .entry)) (commandOf command)) (length (commandOctets errata (pooledCommandMeaning errata (now (pool .entry)) (now (tape .entry)) (commandOf command)))) ⌝ }
+{
+    let call = call_of(command);
+    let words = call.words;
+    let layout = layout_of(call.class, call.method);
+    let fields = layout.fields;
+    let count = layout.count;
+    match size_fields(&fields[..count], ALL, &words, pool, tape) {
+        FieldSize::Refused(e) => PayloadSize::Refused(e),
+        FieldSize::TooLong => PayloadSize::Refused(WireError::TooLong),
+        FieldSize::Octets(n) => PayloadSize::Octets(4 + n),
     }
 }
 

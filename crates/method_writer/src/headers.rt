@@ -1,4 +1,5 @@
-// The content header writer: class, weight 0, body size, a flag for each property that is present, and these.
+// The content header writer: class, weight 0, body size, a flag for each property that is present, and these. And the
+// judgement alone.
 ghost use mathlib.Core.Path.{_≡_};
 ghost use mathlib.Core.Option.{some};
 ghost use mathlib.Core.List.{[], _∷_};
@@ -7,11 +8,15 @@ ghost use lib.ListN.{length};
 ghost use Rattle.types.specs.Memory.{outcome};
 ghost use Rattle.writers.specs.AnswerOf.{answerOfWritten};
 ghost use Rattle.tables.specs.Letters.{errata};
+ghost use Rattle.table_writer.specs.Sizes.{sized};
 ghost use Rattle.method.specs.Fields.{number, shortStr, table};
-ghost use Rattle.method.specs.Pooled.{writeHeaderPooled};
+ghost use Rattle.method.specs.Pooled.{headerRefusalPooled, pooledHeaderMeaning, writeHeaderPooled};
+ghost use Rattle.method.specs.Writing.{headerOctets};
 ghost use Rattle.method.specs.Words.{headerFrom};
 ghost use Rattle.method.specs.AnswerOf.{headerOf, optionalSpan, optionalU8, optionalU64, optionalTable};
+ghost use Rattle.method_writer.specs.AnswerOf.{answerOfPayloadSize};
 ghost use Rattle.method_writer.specs.Properties.{optionalWords, Put};
+use crate::PayloadSize;
 use crate::emit::emit_fields;
 use crate::emit::has_space;
 use crate::emit::next_of;
@@ -139,6 +144,20 @@ fn put_properties(words: &mut [u64], properties: ContentProperties) -> u16
     let app_id = properties.app_id;
     let m = put_span(words, l, app_id);
     m.flags
+}
+
+// Judges a content header as its writer does, but for the space. Nothing is written.
+pub fn judge_content_header(header: ContentHeader, pool: &[u8], tape: &[u64]) -> PayloadSize
+    ensures { λ r. ⌜ answerOfPayloadSize r ≡ sized (headerRefusalPooled errata (now (pool .entry)) (now (tape .entry)) (headerOf header)) (length (headerOctets errata (pooledHeaderMeaning errata (now (pool .entry)) (now (tape .entry)) (headerOf header)))) ⌝ }
+{
+    let mut words = [0u64; 22];
+    let present = put_properties(&mut words, header.properties);
+    let layout = property_fields();
+    match size_fields(&layout, present, &words, pool, tape) {
+        FieldSize::Refused(e) => PayloadSize::Refused(e),
+        FieldSize::TooLong => PayloadSize::Refused(WireError::TooLong),
+        FieldSize::Octets(n) => PayloadSize::Octets(14 + n),
+    }
 }
 
 // Writes a content header whose strings are spans of the pool. Its headers are the tape; without them the tape is not read.

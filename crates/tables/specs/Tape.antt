@@ -76,6 +76,11 @@ fillTape used tape (given x n) =
     outcome (given (record { value = x .value; count = length (x .tape) }) n) (splice (used * tapeRecords .size) (concatMap (tapeRecords .words) (x .tape)) tape)
 fillTape used tape (refused r) = outcome (refused r) tape
 
+-- the same without the value: how many records were filled, and the next position
+abbrev pub recordsOnly : {A : Type 0} → Outcome (WithCount A) → Outcome (WithCount Unit)
+recordsOnly (outcome (given x n) tape) = outcome (given (record { value = tt; count = x .count }) n) tape
+recordsOnly (outcome (refused r) tape) = outcome (refused r) tape
+
 -- a table or a lone value is nothing but its records
 abbrev pub asTape : Answer LocatedTable → Answer (WithTape Unit)
 asTape a = andThen a (λ t n. given (record { value = tt; tape = flatten t }) n)

@@ -1,0 +1,5 @@
+-- Laws of the readers of frames.
+pub mod DecodeLaws
+pub mod StepLaws
+pub mod WalkStepLaws
+pub mod WalkInvariant

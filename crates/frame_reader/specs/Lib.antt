@@ -1,0 +1,3 @@
+-- The specification of the readers of frames.
+pub mod Walking
+pub mod AnswerOf

@@ -1,0 +1,39 @@
+// Readers of frames: the decoder, the reading step, and the walk over octets of any number of frames.
+pub mod decode;
+pub mod step;
+pub mod walk;
+
+use frame::Frame;
+use frame::Payload;
+use types::Cursor;
+use types::WireError;
+
+// A frame, and the cursor after it.
+pub enum Decoded {
+    Value(Frame, Cursor),
+    Refused(WireError),
+}
+
+// A frame that was read, the number of its tape records, and the cursor after it.
+pub enum ReadFrame {
+    Value {
+        channel: u16,
+        payload: Payload,
+        records: usize,
+        next: Cursor,
+    },
+    Refused(WireError),
+}
+
+// None, or the refusal that stopped the walk.
+pub enum Stop {
+    None,
+    Refused(WireError),
+}
+
+// What the walk always ends with: frames read, octets consumed, and why it stopped.
+pub struct Walked {
+    pub frames: usize,
+    pub consumed: usize,
+    pub refusal: Stop,
+}
