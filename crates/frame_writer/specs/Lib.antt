@@ -1,0 +1,2 @@
+-- The specification of the frame writers' own parts.
+pub mod Parts
