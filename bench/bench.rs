@@ -266,4 +266,6 @@ pub fn run() {
     crate::tables::run(SAMPLES);
     println!();
     crate::methods::run(SAMPLES);
+    println!();
+    crate::frames::run(SAMPLES);
 }

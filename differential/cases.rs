@@ -4,13 +4,15 @@
 //! the same cases for the same words on every machine. Kinds in which SEED and COUNT say nothing:
 //!   sheet     the bench sheet of document 01 and its neighbours
 //!   edges     least, largest and odd values, lengths at their limits, well-formed inputs cut short
-//!   recorded  tables, content headers and replies that were sent, of recorded.txt
+//!   recorded  tables, content headers, replies and frames that were sent, of recorded.txt
 //!   short     edges, every input of 0 to 2 octets of each reader, every value letter with 0 to 10
 //!   commands  every command with every set of flags, numbers 0 and largest, strings of 0, 3, 255
 //!             and 256 octets and texts of odd characters in every place
 //!   headers   content headers with every set of flags, written and read: whole, cut, damaged; each
 //!             property alone
 //!   replies   payloads for each reply reader: whole, cut, damaged; random octets
+//!   frames    every type octet with 0 to 8 octets; sizes around the octets left, and the largest; every
+//!             frame end; every type with payloads of 0, 1, 255 and 65,536 octets, written and read
 //!   utf8      every text of 1 and 2 octets, those of 3 and 4 over the octets where RFC 3629 decides
 //!   utf8-3    every text of 3 octets
 //!   long      strings, bodies, logins and tables around 255, 256, 65,535 and 65,536 octets
@@ -19,11 +21,11 @@
 //!   damaged   well-formed inputs of readers, cut, or with octets changed, removed or inserted
 //!   random    random octets for readers
 //!   mixed     a third of each
+mod frames;
 mod inputs;
 mod methods;
 mod tables;
 
-use amqp_rust::frame::{Frame, FrameType};
 use amqp_rust::line::{self, push_octets};
 use amqp_rust::tape::Table;
 use inputs::{BOUNDARY_CHARACTERS, LETTERS, Rng};
@@ -79,6 +81,7 @@ fn print_kind(cases: &mut Cases, kind: &str, seed: u64, count: u64) {
         "commands" => methods::commands(cases),
         "headers" => methods::headers(cases),
         "replies" => methods::replies(cases),
+        "frames" => frames::frames(cases),
         "utf8" => utf8(cases),
         "utf8-3" => utf8_3(cases),
         "long" => long(cases),
@@ -217,7 +220,7 @@ fn random(r: &mut Rng, operation: u8) -> Vec<Vec<u8>> {
     match operation {
         0x01 => likely_table(r, &mut octets),
         0x02 => likely_value(r, &mut octets),
-        0x06 => likely_frame(r, &mut octets),
+        0x06 => frames::likely(r, &mut octets),
         0x07 => methods::likely_header(r, &mut octets),
         _ => {}
     }
@@ -231,18 +234,6 @@ fn likely_octet(r: &mut Rng) -> u8 {
         1 => r.below(8) as u8,
         2 => r.pick(LETTERS),
         _ => r.octet(),
-    }
-}
-
-/// Makes octets begin and, where there are enough, end as a frame's do.
-fn likely_frame(r: &mut Rng, octets: &mut [u8]) {
-    if let Some(frame_type) = octets.first_mut() {
-        *frame_type = r.pick(&[1, 2, 3, 8, 4, 0]);
-    }
-    if octets.len() >= 8 {
-        let size = octets.len() - 8;
-        octets[3..7].copy_from_slice(&(size as u32).to_be_bytes());
-        octets[7 + size] = 0xce;
     }
 }
 
@@ -282,9 +273,10 @@ fn recorded(cases: &mut Cases) {
         let [operation, octets] = fields.as_slice() else { fail("recorded.txt: not two fields") };
         match operation.as_slice() {
             [0x01] => tables::recorded(cases, octets),
+            [0x06] => frames::recorded(cases, octets),
             [0x07] => methods::recorded_header(cases, octets),
             [operation @ 0x21..=0x27] => methods::recorded_reply(cases, *operation, octets),
-            _ => fail("recorded.txt: neither a table nor a content header nor a reply"),
+            _ => fail("recorded.txt: no table, frame, content header or reply"),
         }
     }
 }
@@ -324,7 +316,7 @@ fn edges(cases: &mut Cases) {
         }
     }
     tables::edges(cases);
-    frame_edges(cases);
+    frames::edges(cases);
     for flags in 0..=255u8 {
         let flags: Vec<u8> = (0..8).map(|place| flags >> place & 1).collect();
         cases.case(0x35, &[&flags]);
@@ -425,14 +417,6 @@ fn prefixes(cases: &mut Cases, operation: u8) {
     }
 }
 
-/// Every frame type and every frame end, of an empty frame.
-fn frame_edges(cases: &mut Cases) {
-    for octet in 0..=255 {
-        cases.case(0x06, &[&[octet, 0, 1, 0, 0, 0, 0, 0xce]]);
-        cases.case(0x06, &[&[8, 0, 0, 0, 0, 0, 0, octet]]);
-    }
-}
-
 // Texts.
 
 /// The octets next to which RFC 3629 decides otherwise.
@@ -490,7 +474,7 @@ fn long(cases: &mut Cases) {
     for length in [0, 1, 254, 255, 256, 257, 65_535, 65_536, 65_537] {
         let octets = r.octets(length);
         long_long_string(cases, &octets);
-        long_body(cases, &octets);
+        frames::long(cases, &octets);
     }
     tables::long(cases, &mut r);
     methods::long(cases, &mut r);
@@ -516,12 +500,4 @@ fn long_long_string(cases: &mut Cases, octets: &[u8]) {
         cases.case(operation, &[&[whole.as_slice(), &[0]].concat()]);
     }
     cases.case(0x37, &[octets]);
-}
-
-fn long_body(cases: &mut Cases, octets: &[u8]) {
-    let frame = Frame { frame_type: FrameType::Body, channel: 65_535, payload: octets.to_vec() };
-    let whole = frame.encode();
-    cases.case(0x06, &[&whole]);
-    cases.case(0x06, &[&whole[..whole.len() - 1]]);
-    cases.case_of(0x32, &inputs::frame_fields(&frame));
 }

@@ -1,6 +1,7 @@
 -- What an exported function leaves for its caller: the code it returns and the four words lent for its answer. Code 0 is a value,
 -- any other the number of a refusal (document 01, "Results and refusals").
 use Prim.Native.Nat.{ℕ}
+use mathlib.Core.Option.{Option, none, some}
 use mathlib.Core.List.{List, [], _∷_, _++_}
 use lib.ListN.{take}
 use Rattle.types.specs.Answer.{Refusal, Answer, given, refused}
@@ -9,6 +10,10 @@ use Rattle.types.specs.declared.Span.{Span}
 use Rattle.tables.specs.Tape.{WithCount}
 use Rattle.method.specs.Fields.{Returned}
 use Rattle.method.specs.Properties.{Header, class, bodySize}
+use Rattle.frame.specs.Frame.{Frame}
+use Rattle.frame.specs.Step.{FrameOf}
+use Rattle.frame.specs.Walk.{WalkOutcome}
+use Rattle.frame.specs.Writing.{typeOf}
 
 pub record Reply : Type 0 where
   pub code : ℕ
@@ -48,6 +53,14 @@ records w = w .count ∷ []
 abbrev pub header : WithCount (Header Returned) → List ℕ
 header w = class (w .value) ∷ bodySize (w .value) ∷ w .count ∷ []
 
+-- those of a frame that is decoded: type, channel, and the length of its payload, which begins behind the first seven octets
+abbrev pub decoded : Frame → List ℕ
+decoded f = f .type ∷ f .channel ∷ f .payload .len ∷ []
+
+-- and of one that is read: type, channel, and how many tape records it has
+abbrev pub frame : WithCount (FrameOf Returned Span) → List ℕ
+frame w = typeOf (w .value .payload) ∷ w .value .channel ∷ w .count ∷ []
+
 -- a writer leaves its output too, and a reader of tables its tape
 pub record ReplyWith : Type 0 where
   pub answer : Reply
@@ -58,3 +71,20 @@ replyWith code words memory = record { answer = reply code words; memory = memor
 
 abbrev pub replyWithOf : {A : Type 0} → (A → List ℕ) → Outcome A → ReplyWith
 replyWithOf f (outcome a memory) = record { answer = replyOf f a; memory = memory }
+
+-- the walk's: the number of the refusal that stopped it, or 0; octets consumed, frames read, and the refusal's values. It leaves the tape and
+-- the register
+pub record WalkReply : Type 0 where
+  pub answer : Reply
+  pub tape : List ℕ
+  pub register : List ℕ
+
+abbrev pub walkReply : ℕ → List ℕ → List ℕ → List ℕ → WalkReply
+walkReply code words tape register = record { answer = reply code words; tape = tape; register = register }
+
+abbrev pub stopReply : ℕ → ℕ → Option Refusal → Reply
+stopReply consumed frames none = reply 0 (four (consumed ∷ frames ∷ []))
+stopReply consumed frames (some r) = reply (r .number) (four (consumed ∷ frames ∷ r .values))
+
+abbrev pub walkReplyOf : WalkOutcome → WalkReply
+walkReplyOf w = record { answer = stopReply (w .consumed) (w .frames) (w .refusal); tape = w .tape; register = w .register }

@@ -1,6 +1,9 @@
 // A case is answered by the library that has the operation of its first field.
 ghost use Prim.Native.Nat.{_≤_};
 ghost use lib.ListN.{length};
+use frame_read_cases::decode;
+use frame_read_cases::step;
+use frame_read_cases::walk;
 use lines::line;
 use lines::print;
 use method_read_cases::commands;
@@ -23,6 +26,9 @@ fn with_space(
         0x30..=0x31 => {
             method_write_cases::answer(op, octets, marks, octets_lent, lent, tape, out, at)
         }
+        0x32 | 0x43 => {
+            frame_write_cases::answer(op, octets, marks, octets_lent, lent, tape, out, at)
+        }
         0x33..=0x34 => {
             table_write_cases::answer(op, octets, marks, octets_lent, lent, tape, out, at)
         }
@@ -44,6 +50,7 @@ fn with_room(
     match op {
         0x01..=0x02 => table_read_cases::answer_with_room(op, octets, marks, room, tape, out, at),
         0x07 => headers::answer_with_room(octets, marks, room, tape, out, at),
+        0x42 => step::answer_with_room(octets, marks, room, tape, out, at),
         _ => print::put(out, at, b'?'),
     }
 }
@@ -64,6 +71,7 @@ fn repeated(
         0x33..=0x34 => {
             table_write_cases::answer_repeated(op, octets, marks, space, lent, tape, out, at)
         }
+        0x43 => frame_write_cases::answer_repeated(octets, marks, space, lent, tape, out, at),
         _ => print::put(out, at, b'?'),
     }
 }
@@ -90,7 +98,29 @@ fn limited(
     }
 }
 
-fn operation(
+// Operations that read tables, commands, content headers and frames.
+fn reading(
+    op: u8,
+    octets: &[u8],
+    marks: &[usize],
+    tape: &mut [u64],
+    register: &mut [u64],
+    out: &mut [u8],
+    at: usize,
+) -> usize {
+    match op {
+        0x01..=0x02 => table_read_cases::answer(op, octets, marks, tape, out, at),
+        0x06 => decode::answer(octets, marks, out, at),
+        0x07 => headers::answer(octets, marks, tape, out, at),
+        0x40 => commands::answer(octets, marks, tape, out, at),
+        0x41 => walk::answer(octets, marks, tape, register, out, at),
+        _ => step::answer(octets, marks, tape, out, at),
+    }
+}
+
+// Operations that write them.
+fn writing(
+    op: u8,
     octets: &[u8],
     marks: &[usize],
     lent: &mut [u8],
@@ -98,18 +128,31 @@ fn operation(
     out: &mut [u8],
     at: usize,
 ) -> usize {
+    let space = Space::Enough;
+    match op {
+        0x29 => frame_write_cases::answer_protocol_header(marks, out, at),
+        0x30..=0x31 => method_write_cases::answer(op, octets, marks, space, lent, tape, out, at),
+        0x33..=0x34 => table_write_cases::answer(op, octets, marks, space, lent, tape, out, at),
+        _ => frame_write_cases::answer(op, octets, marks, space, lent, tape, out, at),
+    }
+}
+
+fn operation(
+    octets: &[u8],
+    marks: &[usize],
+    lent: &mut [u8],
+    tape: &mut [u64],
+    register: &mut [u64],
+    out: &mut [u8],
+    at: usize,
+) -> usize {
     let op = line::operation(octets, marks);
     match op {
-        0x01..=0x02 => table_read_cases::answer(op, octets, marks, tape, out, at),
-        0x07 => headers::answer(octets, marks, tape, out, at),
+        0x01..=0x02 | 0x06..=0x07 | 0x40..=0x42 => {
+            reading(op, octets, marks, tape, register, out, at)
+        }
         0x20..=0x28 => reply_cases::answer(op, octets, marks, out, at),
-        0x30..=0x31 => {
-            method_write_cases::answer(op, octets, marks, Space::Enough, lent, tape, out, at)
-        }
-        0x33..=0x34 => {
-            table_write_cases::answer(op, octets, marks, Space::Enough, lent, tape, out, at)
-        }
-        0x40 => commands::answer(octets, marks, tape, out, at),
+        0x29 | 0x30..=0x34 | 0x43 => writing(op, octets, marks, lent, tape, out, at),
         0x50..=0x52 => limited(op, octets, marks, lent, tape, out, at),
         _ => cases::answer(op, octets, marks, lent, out, at),
     }
@@ -121,6 +164,7 @@ pub fn answer(
     n: usize,
     lent: &mut [u8],
     tape: &mut [u64],
+    register: &mut [u64],
     out: &mut [u8],
     at: usize,
 ) -> usize
@@ -128,6 +172,6 @@ pub fn answer(
 {
     let mut marks = [0usize; 33];
     let count = line::split(line, n, &mut marks);
-    let end = operation(line, &marks[0..count], lent, tape, out, at);
+    let end = operation(line, &marks[0..count], lent, tape, register, out, at);
     print::put(out, end, b'\n')
 }

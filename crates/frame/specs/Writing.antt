@@ -11,7 +11,7 @@ use Rattle.types.specs.declared.Span.{Span}
 use Rattle.writers.specs.Writers.{writeAt}
 use Rattle.tables.specs.Letters.{Letters}
 use Rattle.tables.specs.Writing.{inPool}
-use Rattle.method.specs.Fields.{Meaning, Returned}
+use Rattle.method.specs.Fields.{Kind, Meaning, Returned}
 use Rattle.method.specs.Writing.{commandOctets, headerOctets}
 use Rattle.method.specs.Pooled.{commandRefusalPooled, headerRefusalPooled, pooledCommandMeaning, pooledHeaderMeaning}
 use Rattle.frame.specs.Frame.{frameOctets}
@@ -27,10 +27,11 @@ pub record SentFrame : Type 0 where
 abbrev pub FrameMeaning : Type 0
 FrameMeaning = FrameOf Meaning (List ℕ)
 
-abbrev pub typeOf : Payload Meaning (List ℕ) → ℕ
+-- the frame type of a payload, in whatever form its arguments are
+abbrev pub typeOf : {X : Kind → Type 0} {B : Type 0} → Payload X B → ℕ
 typeOf (command x) = 1
 typeOf (header x) = 2
-typeOf (body xs) = 3
+typeOf (body b) = 3
 typeOf heartbeat = 8
 
 module _ (letters : Letters) where

@@ -3,3 +3,4 @@ pub mod DecodeLaws
 pub mod StepLaws
 pub mod WalkStepLaws
 pub mod WalkInvariant
+pub mod FixedSizeLaws

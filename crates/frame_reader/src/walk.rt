@@ -17,10 +17,12 @@ use crate::Decoded;
 use crate::Stop;
 use crate::Walked;
 use crate::decode::decode;
+use crate::fixed_size::fixed_size_frame;
 use frame::Frame;
 use frame::FrameType;
+use method_reader::ReadCommand;
 use method_reader::ReadContentHeader;
-use method_reader::commands::command_records;
+use method_reader::commands::read_command;
 use method_reader::headers::read_content_header;
 use table_reader::ReadRecords;
 use types::Cursor;
@@ -45,9 +47,9 @@ fn payload_records(
     let end = start + span.len;
     let frame_type = frame.frame_type;
     match frame_type {
-        FrameType::Method => match command_records(&s[..end], Cursor { at: start }, tape, used) {
-            ReadRecords::Refused(e) => ReadRecords::Refused(e),
-            ReadRecords::Value(records, _) => ReadRecords::Value(records, next),
+        FrameType::Method => match read_command(&s[..end], Cursor { at: start }, tape, used) {
+            ReadCommand::Refused(e) => ReadRecords::Refused(e),
+            ReadCommand::Value(_, records, _) => ReadRecords::Value(records, next),
         },
         FrameType::Header => match read_content_header(
             &s[..end],
@@ -79,8 +81,8 @@ fn put_entry(register: &mut [u64], k: usize, first: usize, before: usize, own: u
     register[i + 2] = own as u64;
 }
 
-// A step of the walk. The register is judged when the frame is decoded, before its payload.
-fn walk_step(
+// A frame of any kind. The register is judged when the frame is decoded, before its payload.
+fn any_step(
     s: &[u8],
     at: usize,
     tape: &mut [u64],
@@ -105,6 +107,28 @@ fn walk_step(
             }
         }
     }
+}
+
+// A step of the walk, which tries first whether the frame is of a fixed size.
+fn walk_step(
+    s: &[u8],
+    at: usize,
+    tape: &mut [u64],
+    used: usize,
+    register: &mut [u64],
+    k: usize,
+) -> ReadRecords
+    requires { ⌜ at ≤ length (now s) ⌝ }
+    ensures { λ r. ⌜ stepOutcome (answerOfRecords r) (now (tape .exit)) (now (register .exit)) ≡ fillBoth at used k (now (tape .entry)) (now (register .entry)) (walkStepAt errata (now (s .entry)) at (slotsOf k (now (register .entry))) (roomOf used (now (tape .entry)))) ⌝ }
+{
+    if k < register.len() / ENTRY_WORDS {
+        let next = fixed_size_frame(s, at);
+        if 0 < next {
+            put_entry(register, k, at, used, 0);
+            return ReadRecords::Value(0, Cursor { at: next });
+        }
+    }
+    any_step(s, at, tape, used, register, k)
 }
 
 // Reads frames until no octet is left or a step refuses. The refused frame adds nothing to register and tape.

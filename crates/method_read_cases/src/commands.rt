@@ -179,18 +179,24 @@ fn and_argument(v: Argument, s: &[u8], out: &mut [u8], at: usize) -> usize
     }
 }
 
-fn show(c: Shown, s: &[u8], end: usize, out: &mut [u8], at: usize) -> usize
+// ` CLASS METHOD ARGUMENT..`
+fn show(c: Shown, s: &[u8], out: &mut [u8], at: usize) -> usize
     ensures { λ r. ⌜ r ≤ length (now (out .entry)) ⌝ }
 {
     let first = c.first;
     let second = c.second;
     let third = c.third;
-    let given = print::given(out, at, end);
-    let class = print::and_number(out, given, b' ', c.class);
+    let class = print::and_number(out, at, b' ', c.class);
     let method = print::and_number(out, class, b' ', c.method);
     let with_one = and_argument(first, s, out, method);
     let with_two = and_argument(second, s, out, with_one);
     and_argument(third, s, out, with_two)
+}
+
+pub fn and_command(c: Command, s: &[u8], out: &mut [u8], at: usize) -> usize
+    ensures { λ r. ⌜ r ≤ length (now (out .entry)) ⌝ }
+{
+    show(of_command(c), s, out, at)
 }
 
 fn judge(r: ReadCommand, s: &[u8], tape: &[u64], out: &mut [u8], at: usize) -> usize
@@ -204,7 +210,8 @@ fn judge(r: ReadCommand, s: &[u8], tape: &[u64], out: &mut [u8], at: usize) -> u
             if count != 0 {
                 return print::text(out, at, b"# changed");
             }
-            show(of_command(c), s, next.at, out, at)
+            let given = print::given(out, at, next.at);
+            and_command(c, s, out, given)
         }
         ReadCommand::Refused(e) => print::refused(out, at, e),
     }

@@ -129,7 +129,8 @@ fn and_property(
     }
 }
 
-fn show(
+// ` SIZE FLAG=VALUE..`
+pub fn and_header(
     header: ContentHeader,
     s: &[u8],
     tape: &[u64],
@@ -140,8 +141,7 @@ fn show(
     ensures { λ r. ⌜ r ≤ length (now (out .entry)) ⌝ }
 {
     let properties = header.properties;
-    let start = print::text(out, at, b"= -");
-    let mut next = print::and_number(out, start, b' ', header.body_size);
+    let mut next = print::and_number(out, at, b' ', header.body_size);
     let mut flag = FIRST;
     while LAST <= flag {
         let v = property_of(properties, flag);
@@ -152,7 +152,7 @@ fn show(
 }
 
 // How many records the headers have.
-fn header_records(header: ContentHeader) -> usize {
+pub fn header_records(header: ContentHeader) -> usize {
     let p = header.properties;
     let headers = p.headers;
     match headers {
@@ -177,7 +177,8 @@ fn judge(
             if header_records(header) != count || !kept(tape, count) {
                 return print::text(out, at, b"# changed");
             }
-            show(header, s, tape, by_words, out, at)
+            let given = print::text(out, at, b"= -");
+            and_header(header, s, tape, by_words, out, given)
         }
         ReadContentHeader::Refused(e) => {
             if !kept(tape, 0) {

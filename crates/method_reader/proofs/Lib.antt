@@ -4,4 +4,3 @@ pub mod FieldLaws
 pub mod PropertyLaws
 pub mod CommandLaws
 pub mod LoginLaws
-pub mod FixedSizeLaws

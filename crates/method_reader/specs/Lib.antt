@@ -2,4 +2,3 @@
 pub mod Fields
 pub mod AnswerOf
 pub mod Properties
-pub mod FixedFields

@@ -6,8 +6,6 @@ ghost use Prim.Native.Nat.{_+_, _≤_};
 ghost use lib.ListN.{length, getD};
 ghost use Rattle.types.specs.Memory.{outcome};
 ghost use Rattle.tables.specs.Letters.{errata};
-ghost use Rattle.tables.specs.Tape.{recordsOnly};
-ghost use Rattle.table_reader.specs.AnswerOf.{answerOfRecords};
 ghost use Rattle.method.specs.Commands.{known, fieldsOf, call};
 ghost use Rattle.method.specs.Reading.{readCommand};
 ghost use Rattle.method.specs.Words.{argsFrom};
@@ -20,11 +18,9 @@ use crate::ReadCommand;
 use crate::fields::ReadFields;
 use crate::fields::fill_table;
 use crate::fields::read_fields;
-use crate::fixed_size::is_fixed_size;
 use method::Command;
 use method::layout::Layout;
 use method::layout::layout_of;
-use table_reader::ReadRecords;
 use table_reader::room;
 use types::Cursor;
 use types::ReadU16;
@@ -207,19 +203,5 @@ pub fn read_command(s: &[u8], at: Cursor, tape: &mut [u64], used: usize) -> Read
                 read_arguments(class, method, layout, s, next.at, tape, used)
             }
         },
-    }
-}
-
-// Reads a command as `read_command` does, and answers how many tape records it has filled, without the command.
-pub fn command_records(s: &[u8], at: Cursor, tape: &mut [u64], used: usize) -> ReadRecords
-    ensures { λ r. ⌜ outcome (answerOfRecords r) (now (tape .exit)) ≡ recordsOnly (readCommand errata (now (s .entry)) (at .at) used (now (tape .entry))) ⌝ }
-{
-    let start = at.at;
-    if is_fixed_size(s, start) {
-        return ReadRecords::Value(0, Cursor { at: s.len() });
-    }
-    match read_command(s, at, tape, used) {
-        ReadCommand::Refused(e) => ReadRecords::Refused(e),
-        ReadCommand::Value(_, records, next) => ReadRecords::Value(records, next),
     }
 }

@@ -1,7 +1,6 @@
 // Readers of commands and content headers. All octets are judged before the tape is filled, so that a refusal leaves it as it was.
 pub mod commands;
 mod fields;
-mod fixed_size;
 pub mod headers;
 mod login;
 

@@ -9,7 +9,7 @@ use types::Span;
 pub(crate) const ALL: u16 = 0xFFFF;
 
 // Whether field k is there and what the letter says.
-pub(crate) fn fits(octets: &[u8], marks: &[usize], k: usize, letter: u8) -> bool {
+pub fn fits(octets: &[u8], marks: &[usize], k: usize, letter: u8) -> bool {
     if line::fields(marks) <= k {
         return false;
     }
@@ -78,11 +78,11 @@ pub(crate) fn number(octets: &[u8], marks: &[usize], k: usize) -> u64 {
     n
 }
 
-pub(crate) fn octet(octets: &[u8], marks: &[usize], k: usize) -> u8 {
+pub fn octet(octets: &[u8], marks: &[usize], k: usize) -> u8 {
     (number(octets, marks, k) % 0x100) as u8
 }
 
-pub(crate) fn number16(octets: &[u8], marks: &[usize], k: usize) -> u16 {
+pub fn number16(octets: &[u8], marks: &[usize], k: usize) -> u16 {
     (number(octets, marks, k) % 0x1_0000) as u16
 }
 
@@ -95,7 +95,7 @@ pub(crate) fn flag(octets: &[u8], marks: &[usize], k: usize) -> bool {
 }
 
 // Where the octets of field k stand; no octets where there is no such field.
-pub(crate) fn span(marks: &[usize], k: usize) -> Span {
+pub fn span(marks: &[usize], k: usize) -> Span {
     if line::fields(marks) <= k {
         return Span { start: 0, len: 0 };
     }

@@ -22,7 +22,7 @@ fn are(octets: &[u8], marks: &[usize], letters: &[u8]) -> bool {
 }
 
 // Whether the fields are those of a command. The key is class and method, as in 60_00080.
-pub(crate) fn is_command(octets: &[u8], marks: &[usize]) -> bool {
+pub fn is_command(octets: &[u8], marks: &[usize]) -> bool {
     if !fits(octets, marks, 1, b'H') || !fits(octets, marks, 2, b'H') {
         return false;
     }
@@ -166,7 +166,7 @@ fn basic(method: u16, octets: &[u8], marks: &[usize]) -> Command {
     }
 }
 
-pub(crate) fn command(octets: &[u8], marks: &[usize]) -> Command {
+pub fn command(octets: &[u8], marks: &[usize]) -> Command {
     let method = number16(octets, marks, 2);
     match number16(octets, marks, 1) {
         10 => connection(method, octets, marks),

@@ -5,12 +5,25 @@ use crate::arguments::number16;
 use crate::arguments::octet;
 use crate::arguments::place;
 use crate::arguments::span;
+use crate::pool::move_spans;
+use lines::line;
 use method::ContentHeader;
 use method::ContentProperties;
 use method::OptSpan;
 use method::OptTable;
 use method::OptU8;
 use method::OptU64;
+use table_write_cases::WORD_OCTETS;
+use table_write_cases::load_repeated;
+use table_write_cases::repeated_words;
+use tables::tape::RECORD_WORDS;
+use types::Span;
+
+// The header of a case, and how many words of the tape are its table; none where the fields are no header.
+pub enum HeaderCase {
+    Header(ContentHeader, usize),
+    None,
+}
 
 // The properties by flag, from 15 down to 3, the headers as pool and tape.
 const LETTERS: [u8; 14] = *b"ssstoossssQsss";
@@ -30,12 +43,7 @@ fn flags_of(flags: u16, has_pool: bool) -> u16 {
 }
 
 // Whether the fields are those of a content header. The places get the fields of what is present.
-pub(crate) fn is_header(
-    octets: &[u8],
-    marks: &[usize],
-    has_pool: bool,
-    places: &mut [usize],
-) -> bool {
+fn is_header(octets: &[u8], marks: &[usize], has_pool: bool, places: &mut [usize]) -> bool {
     if !fits(octets, marks, 1, b'H') || !fits(octets, marks, 2, b'Q') {
         return false;
     }
@@ -82,12 +90,7 @@ fn opt_table(k: usize, records: usize) -> OptTable {
 }
 
 // The header whose tape has so many records.
-pub(crate) fn header(
-    octets: &[u8],
-    marks: &[usize],
-    places: [usize; 14],
-    records: usize,
-) -> ContentHeader {
+fn header(octets: &[u8], marks: &[usize], places: [usize; 14], records: usize) -> ContentHeader {
     ContentHeader {
         class: number16(octets, marks, 1),
         body_size: number(octets, marks, 2),
@@ -107,4 +110,59 @@ pub(crate) fn header(
             app_id: opt_span(marks, places[13]),
         },
     }
+}
+
+// The words of the tape. A header without one has none: its place is 0, and field 0, an operation or a frame type, is less than a
+// word.
+fn words(octets: &[u8], marks: &[usize], places: [usize; 14]) -> usize {
+    line::field(octets, marks, places[3]).len() / WORD_OCTETS
+}
+
+// The tape gets `n` words: those of its field, where there is one, and its last record again and again.
+fn load_header(
+    octets: &[u8],
+    marks: &[usize],
+    places: [usize; 14],
+    n: usize,
+    pool: Span,
+    tape: &mut [u64],
+) -> HeaderCase {
+    if tape.len() < n {
+        return HeaderCase::None;
+    }
+    load_repeated(line::field(octets, marks, places[3]), &mut tape[0..n]);
+    move_spans(&mut tape[0..n], pool);
+    HeaderCase::Header(header(octets, marks, places, n / RECORD_WORDS), n)
+}
+
+// The fields of 31. The tape gets the words of the headers.
+pub fn header_case(octets: &[u8], marks: &[usize], tape: &mut [u64]) -> HeaderCase {
+    let mut places = [0usize; 14];
+    if !is_header(octets, marks, true, &mut places) {
+        return HeaderCase::None;
+    }
+    let n = words(octets, marks, places);
+    let pool = span(marks, places[2]);
+    load_header(octets, marks, places, n, pool, tape)
+}
+
+// The fields of 31 in 52: the length of the pool and how many times more the last record stands, then class and what follows it,
+// the headers being the tape alone.
+pub fn repeated_header_case(octets: &[u8], marks: &[usize], tape: &mut [u64]) -> HeaderCase {
+    if marks.len() < 3 {
+        return HeaderCase::None;
+    }
+    let fields = &marks[2..];
+    let mut places = [0usize; 14];
+    if !is_header(octets, fields, false, &mut places) {
+        return HeaderCase::None;
+    }
+    let len = line::number(octets, marks, 1);
+    let times = line::number(octets, marks, 2);
+    let n = repeated_words(words(octets, fields, places), times, tape.len());
+    if octets.len() < len || n == 0 || places[3] == 0 {
+        return HeaderCase::None;
+    }
+    let pool = Span { start: 0, len };
+    load_header(octets, fields, places, n, pool, tape)
 }

@@ -31,12 +31,13 @@ fn take(
     line: &mut [u8],
     lent: &mut [u8],
     tape: &mut [u64],
+    register: &mut [u64],
     out: &mut [u8],
 ) -> Progress {
     if b == b'\n' {
         Progress {
             held: 0,
-            pending: answers::answer(line, p.held, lent, tape, out, p.pending),
+            pending: answers::answer(line, p.held, lent, tape, register, out, p.pending),
             ended: false,
         }
     } else {
@@ -55,12 +56,13 @@ fn take_part(
     line: &mut [u8],
     lent: &mut [u8],
     tape: &mut [u64],
+    register: &mut [u64],
     out: &mut [u8],
 ) -> Progress {
     let mut now = p;
     let mut i = 0;
     while i < part.len() {
-        now = take(part[i], now, line, lent, tape, out);
+        now = take(part[i], now, line, lent, tape, register, out);
         i += 1;
     }
     now
@@ -72,6 +74,7 @@ fn read_part(
     line: &mut [u8],
     lent: &mut [u8],
     tape: &mut [u64],
+    register: &mut [u64],
     out: &mut [u8],
 ) -> Progress {
     let mut part = io::large_buffer();
@@ -92,11 +95,17 @@ fn read_part(
         };
     }
     let n = io::count(got, &part);
-    take_part(&part[0..n], p, line, lent, tape, out)
+    take_part(&part[0..n], p, line, lent, tape, register, out)
 }
 
 // Reads to the end of the input, in no more than `turns` reads: no contract says that the input ends.
-fn read_all(line: &mut [u8], lent: &mut [u8], tape: &mut [u64], out: &mut [u8]) -> Progress {
+fn read_all(
+    line: &mut [u8],
+    lent: &mut [u8],
+    tape: &mut [u64],
+    register: &mut [u64],
+    out: &mut [u8],
+) -> Progress {
     let mut p = Progress {
         held: 0,
         pending: 0,
@@ -104,20 +113,26 @@ fn read_all(line: &mut [u8], lent: &mut [u8], tape: &mut [u64], out: &mut [u8]) 
     };
     let mut turns = u64::MAX;
     while turns > 0 && !p.ended {
-        p = read_part(p, line, lent, tape, out);
+        p = read_part(p, line, lent, tape, register, out);
         turns -= 1;
     }
     p
 }
 
 // The last line may lack its newline.
-fn replay(line: &mut [u8], lent: &mut [u8], tape: &mut [u64], out: &mut [u8]) {
-    let p = read_all(line, lent, tape, out);
+fn replay(
+    line: &mut [u8],
+    lent: &mut [u8],
+    tape: &mut [u64],
+    register: &mut [u64],
+    out: &mut [u8],
+) {
+    let p = read_all(line, lent, tape, register, out);
     if p.held == 0 {
         print::flush(out, p.pending);
         return;
     }
-    let end = answers::answer(line, p.held, lent, tape, out, p.pending);
+    let end = answers::answer(line, p.held, lent, tape, register, out, p.pending);
     print::flush(out, end);
 }
 
@@ -126,6 +141,7 @@ fn main() {
     let mut line = [0u8; 400_000];
     let mut lent = [0u8; 262_144];
     let mut tape = [0u64; 393_225];
+    let mut register = [0u64; 75_002];
     let mut out = [0u8; 65_536];
-    replay(&mut line, &mut lent, &mut tape, &mut out);
+    replay(&mut line, &mut lent, &mut tape, &mut register, &mut out);
 }

@@ -5,7 +5,7 @@ ghost use mathlib.Core.Bool.{false};
 ghost use Prim.Native.Nat.{_≤_};
 ghost use lib.ListN.{length};
 
-mod record;
+pub mod record;
 
 use lines::lent;
 use lines::line;

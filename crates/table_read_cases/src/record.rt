@@ -118,7 +118,7 @@ pub(crate) fn contents(s: &[u8], tape: &[u64], k: usize, out: &mut [u8], at: usi
 }
 
 // The six words of record number k, joined by `:`, behind a space.
-pub(crate) fn words(tape: &[u64], k: usize, out: &mut [u8], at: usize) -> usize
+pub fn words(tape: &[u64], k: usize, out: &mut [u8], at: usize) -> usize
     ensures { λ r. ⌜ r ≤ length (now (out .entry)) ⌝ }
 {
     match record_at(tape, k) {

@@ -6,10 +6,10 @@ use Rattle.replay.proofs.read_all.Statement.{statement}
 use Rattle.replay.proofs.read_all.Tie as tie
 
 abbrev Inv-loop : tie.InvT-loop
-Inv-loop line₀ lent₀ tape₀ out₀ p₀ turns₀ line lent tape out p turns = (length line ≡ length line₀) × (length lent ≡ length lent₀) × (length tape ≡ length tape₀) × (length out ≡ length out₀)
+Inv-loop line₀ lent₀ tape₀ register₀ out₀ p₀ turns₀ line lent tape register out p turns = (length line ≡ length line₀) × (length lent ≡ length lent₀) × (length tape ≡ length tape₀) × (length register ≡ length register₀) × (length out ≡ length out₀)
 
 abbrev μ-loop : tie.MeasureT-loop
-μ-loop line₀ lent₀ tape₀ out₀ p₀ turns₀ line lent tape out p turns = turns
+μ-loop line₀ lent₀ tape₀ register₀ out₀ p₀ turns₀ line lent tape register out p turns = turns
 
 pub read-all-spec : {M : Type 1} → statement M
 read-all-spec =
@@ -17,6 +17,8 @@ read-all-spec =
     (tie.spec
     Inv-loop
     μ-loop
+    (λ c. search needs)
+    (λ c. search needs)
     (λ c. search needs)
     (λ c. search needs)
     (λ c. search needs)

@@ -5,10 +5,9 @@ use lib.ListN.{length}
 use lib.Seq.{length-take-le}
 use Rattle.tables.specs.Letters.{errata}
 use Rattle.tables.specs.Tape.{recordsOnly}
-use Rattle.table_reader.specs.AnswerOf.{answerOfRecords}
-use Rattle.method_reader.specs.AnswerOf.{answerOfHeader}
+use Rattle.method_reader.specs.AnswerOf.{answerOfCommand, answerOfHeader}
 use Rattle.frame.specs.AnswerOf.{typeOctet, frameOf}
-use Rattle.frame_reader.proofs.StepLaws.{from-case, withHeader, method-records, header-read, body-read, heartbeat-read, heartbeat-refused}
+use Rattle.frame_reader.proofs.StepLaws.{from-case, withCommand, withHeader, method-read, header-read, body-read, heartbeat-read, heartbeat-refused}
 use borrow.Author.Needs.{needs}
 use Rattle.frame_reader.proofs.walk.payload_records.Statement.{statement}
 use Rattle.frame_reader.proofs.walk.payload_records.Tie as tie
@@ -19,11 +18,11 @@ add-end c = search needs
 enum-told : tie.Need-enum-told
 enum-told c = search needs
 
-slice-aggregate-command-records : tie.Need-slice-aggregate-command-records
-slice-aggregate-command-records c = sym (length-take-le _ _ (c .before .before .before .before .before .before .before .pre))
+slice-aggregate-read-command : tie.Need-slice-aggregate-read-command
+slice-aggregate-read-command c = sym (length-take-le _ _ (c .before .before .before .before .before .before .before .pre))
 
-command-records-requires : tie.Need-command-records-requires
-command-records-requires c κs = search needs
+read-command-requires : tie.Need-read-command-requires
+read-command-requires c κs = search needs
 
 enum-known-e : tie.Need-enum-known-e
 enum-known-e c = search needs
@@ -59,13 +58,13 @@ same-length : tie.Need-same-length
 same-length c = search needs
 
 returns-2 : tie.Need-returns-2
-returns-2 c = let a = c .before .before .before .before .before .before .before .before .before .before .before .before .before .before .args in from-case answerOfRecords (λ u. u) (a .next .at) (method-records errata (a .s .now) (frameOf (a .frame)) (a .next .at) (a .used) (a .tape .now) (ap typeOctet (c .before .before .before .before .before .before .before .before .enum-told .given .1))) (c .before .before .before .before .before .command-records .ensures) (c .before .e .given .1)
+returns-2 c = let a = c .before .before .before .before .before .before .before .before .before .before .before .before .before .before .args in ap recordsOnly (from-case answerOfCommand (withCommand errata (a .s .now) (frameOf (a .frame)) (a .next .at) (a .used) (a .tape .now)) (a .next .at) (method-read errata (a .s .now) (frameOf (a .frame)) (a .next .at) (a .used) (a .tape .now) (ap typeOctet (c .before .before .before .before .before .before .before .before .enum-told .given .1))) (c .before .before .before .before .before .read-command .ensures) (c .before .e .given .1))
 
 same-length-2 : tie.Need-same-length-2
 same-length-2 c = search needs
 
 returns-3 : tie.Need-returns-3
-returns-3 c = let a = c .before .before .before .before .before .before .before .before .before .before .before .before .before .before .args in from-case answerOfRecords (λ u. u) (a .next .at) (method-records errata (a .s .now) (frameOf (a .frame)) (a .next .at) (a .used) (a .tape .now) (ap typeOctet (c .before .before .before .before .before .before .before .before .enum-told .given .1))) (c .before .before .before .before .before .command-records .ensures) (c .before .records .given .1)
+returns-3 c = let a = c .before .before .before .before .before .before .before .before .before .before .before .before .before .before .args in ap recordsOnly (from-case answerOfCommand (withCommand errata (a .s .now) (frameOf (a .frame)) (a .next .at) (a .used) (a .tape .now)) (a .next .at) (method-read errata (a .s .now) (frameOf (a .frame)) (a .next .at) (a .used) (a .tape .now) (ap typeOctet (c .before .before .before .before .before .before .before .before .enum-told .given .1))) (c .before .before .before .before .before .read-command .ensures) (c .before .records .given .1))
 
 same-length-3 : tie.Need-same-length-3
 same-length-3 c = search needs
@@ -91,8 +90,8 @@ payload-records-spec =
     (tie.spec
     add-end
     enum-told
-    slice-aggregate-command-records
-    command-records-requires
+    slice-aggregate-read-command
+    read-command-requires
     enum-known-e
     enum-known-records
     enum-told-2

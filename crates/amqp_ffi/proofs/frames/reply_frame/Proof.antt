@@ -1,0 +1,50 @@
+-- `amqp_ffi::frames::reply_frame` meets its contract. Assumes nothing.
+use mathlib.Core.Path.{_≡_, sym, ap, _∙_}
+use mathlib.Core.List.{[], _∷_}
+use Prim.Native.Nat.{ℕ}
+use Rattle.frame_reader.specs.AnswerOf.{answerOfReadFrame}
+use Rattle.amqp_ffi.specs.Reply.{reply, replyOf, frame}
+use borrow.Author.Needs.{needs}
+use Rattle.amqp_ffi.proofs.frames.reply_frame.Statement.{statement}
+use Rattle.amqp_ffi.proofs.frames.reply_frame.Tie as tie
+
+enum-known-answer : tie.Need-enum-known-answer
+enum-known-answer c = search needs
+
+refuse-requires : tie.Need-refuse-requires
+refuse-requires c κs = search needs
+
+enum-known-answer-2 : tie.Need-enum-known-answer-2
+enum-known-answer-2 c = search needs
+
+type-octet-requires : tie.Need-type-octet-requires
+type-octet-requires c κs = search needs
+
+cast-give-three : tie.Need-cast-give-three
+cast-give-three c = search needs
+
+cast-give-three-2 : tie.Need-cast-give-three-2
+cast-give-three-2 c = search needs
+
+give-three-requires : tie.Need-give-three-requires
+give-three-requires c κs = search needs
+
+returns : tie.Need-returns
+returns c = c .refuse .ensures ∙ ap (replyOf frame) (ap answerOfReadFrame (sym (c .before .before .before .answer .given .1)))
+
+returns-2 : tie.Need-returns-2
+returns-2 c = let v = c .before .before .before .before .answer2 .given .0 in c .give-three .ensures ∙ ap (λ (t : ℕ). reply 0 (v .1 .1 .1 .0 .at ∷ t ∷ v .0 ∷ v .1 .1 .0 ∷ [])) (c .before .type-octet .ensures) ∙ ap (replyOf frame) (ap answerOfReadFrame (sym (c .before .before .before .before .answer2 .given .1)))
+
+pub reply-frame-spec : {M : Type 1} → statement M
+reply-frame-spec =
+    tie.close
+    (tie.spec
+    enum-known-answer
+    refuse-requires
+    enum-known-answer-2
+    type-octet-requires
+    cast-give-three
+    cast-give-three-2
+    give-three-requires
+    returns
+    returns-2)

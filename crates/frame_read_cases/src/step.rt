@@ -1,0 +1,144 @@
+// 42: the octets consumed, type and channel of a frame, then what its payload holds.
+ghost use Prim.Native.Nat.{_≤_};
+ghost use lib.ListN.{length};
+use frame::FrameType;
+use frame::Payload;
+use frame_reader::ReadFrame;
+use frame_reader::step::read_frame;
+use lines::lent;
+use lines::line;
+use lines::print;
+use method_read_cases::commands::and_command;
+use method_read_cases::headers::and_header;
+use method_read_cases::headers::header_records;
+use table_read_cases::USED;
+use table_read_cases::kept;
+use table_read_cases::room_for;
+use table_read_cases::words_for;
+use types::Cursor;
+
+fn type_of(payload: Payload) -> FrameType {
+    match payload {
+        Payload::Command(_) => FrameType::Method,
+        Payload::Header(_) => FrameType::Header,
+        Payload::Body(_) => FrameType::Body,
+        Payload::Heartbeat => FrameType::Heartbeat,
+    }
+}
+
+// How many records it has: those of a header's table.
+fn records_of(payload: Payload) -> usize {
+    match payload {
+        Payload::Header(header) => header_records(header),
+        _ => 0,
+    }
+}
+
+fn and_payload(
+    payload: Payload,
+    s: &[u8],
+    tape: &[u64],
+    by_words: bool,
+    out: &mut [u8],
+    at: usize,
+) -> usize
+    requires { ⌜ at ≤ length (now out) ⌝ }
+    ensures { λ r. ⌜ r ≤ length (now (out .entry)) ⌝ }
+{
+    match payload {
+        Payload::Command(command) => and_command(command, s, out, at),
+        Payload::Header(header) => and_header(header, s, tape, by_words, out, at),
+        Payload::Body(span) => {
+            let next = print::and_number(out, at, b' ', span.start as u64);
+            print::and_number(out, next, b' ', span.len as u64)
+        }
+        Payload::Heartbeat => at,
+    }
+}
+
+fn show(
+    channel: u16,
+    payload: Payload,
+    next: usize,
+    s: &[u8],
+    tape: &[u64],
+    by_words: bool,
+    out: &mut [u8],
+    at: usize,
+) -> usize
+    ensures { λ r. ⌜ r ≤ length (now (out .entry)) ⌝ }
+{
+    let octet = type_of(payload).octet();
+    let given = print::given(out, at, next);
+    let with_type = print::and_number(out, given, b' ', octet as u64);
+    let with_channel = print::and_number(out, with_type, b' ', channel as u64);
+    and_payload(payload, s, tape, by_words, out, with_channel)
+}
+
+// What is filled must be the records of the payload.
+fn judge(r: ReadFrame, s: &[u8], tape: &[u64], by_words: bool, out: &mut [u8], at: usize) -> usize
+    ensures { λ r. ⌜ r ≤ length (now (out .entry)) ⌝ }
+{
+    match r {
+        ReadFrame::Value {
+            channel,
+            payload,
+            records,
+            next,
+        } => {
+            if records_of(payload) != records || !kept(tape, records) {
+                return print::text(out, at, b"# changed");
+            }
+            show(channel, payload, next.at, s, tape, by_words, out, at)
+        }
+        ReadFrame::Refused(e) => {
+            if !kept(tape, 0) {
+                return print::text(out, at, b"# changed");
+            }
+            print::refused(out, at, e)
+        }
+    }
+}
+
+// The reader is lent `room` free records.
+fn answer_lent(
+    octets: &[u8],
+    marks: &[usize],
+    room: usize,
+    by_words: bool,
+    tape: &mut [u64],
+    out: &mut [u8],
+    at: usize,
+) -> usize
+    ensures { λ r. ⌜ r ≤ length (now (out .entry)) ⌝ }
+{
+    let words = words_for(room, tape.len());
+    let s = line::field(octets, marks, 1);
+    if line::fields(marks) != 2 || words == 0 {
+        return print::put(out, at, b'?');
+    }
+    lent::fill_words(&mut tape[0..words]);
+    let r = read_frame(s, Cursor { at: 0 }, &mut tape[0..words], USED);
+    judge(r, s, &tape[0..words], by_words, out, at)
+}
+
+// 51: a tape of `room` records, whose words are shown.
+pub fn answer_with_room(
+    octets: &[u8],
+    marks: &[usize],
+    room: usize,
+    tape: &mut [u64],
+    out: &mut [u8],
+    at: usize,
+) -> usize
+    ensures { λ r. ⌜ r ≤ length (now (out .entry)) ⌝ }
+{
+    answer_lent(octets, marks, room, true, tape, out, at)
+}
+
+pub fn answer(octets: &[u8], marks: &[usize], tape: &mut [u64], out: &mut [u8], at: usize) -> usize
+    ensures { λ r. ⌜ r ≤ length (now (out .entry)) ⌝ }
+{
+    let room = room_for(line::field(octets, marks, 1).len());
+    answer_lent(octets, marks, room, false, tape, out, at)
+}

@@ -1,0 +1,170 @@
+// Cases of the writers of frames: 29 PROTOCOL_HEADER, 32 encode, 43 write_frame; 50, one of the last two into an output of a given
+// size; 52, write_frame of a content header from a tape that repeats its last record. The crate `lines` has their form.
+mod payload;
+
+ghost use Prim.Native.Nat.{_≤_};
+ghost use lib.ListN.{length};
+use crate::payload::PayloadCase;
+use crate::payload::payload_case;
+use crate::payload::repeated_payload_case;
+use frame::FrameType;
+use frame::KnownType;
+use frame::PROTOCOL_HEADER;
+use frame::Payload;
+use frame_writer::encode::encode;
+use frame_writer::write::write_frame;
+use lines::lent;
+use lines::line;
+use lines::print;
+use lines::written;
+use method_write_cases::arguments::fits;
+use method_write_cases::arguments::number16;
+use method_write_cases::arguments::octet;
+use method_write_cases::space_for;
+use table_write_cases::Space;
+
+// 29.
+pub fn answer_protocol_header(marks: &[usize], out: &mut [u8], at: usize) -> usize
+    ensures { λ r. ⌜ r ≤ length (now (out .entry)) ⌝ }
+{
+    if line::fields(marks) != 1 {
+        return print::put(out, at, b'?');
+    }
+    let octets = PROTOCOL_HEADER;
+    print::written(out, at, &octets)
+}
+
+fn encode_lent(
+    frame_type: FrameType,
+    octets: &[u8],
+    marks: &[usize],
+    space: usize,
+    lent: &mut [u8],
+    out: &mut [u8],
+    at: usize,
+) -> usize
+    ensures { λ r. ⌜ r ≤ length (now (out .entry)) ⌝ }
+{
+    if lent.len() < space {
+        return print::put(out, at, b'?');
+    }
+    let channel = number16(octets, marks, 2);
+    let payload = line::field(octets, marks, 3);
+    lent::fill(&mut lent[0..space]);
+    let w = encode(&mut lent[0..space], 0, frame_type, channel, payload);
+    written::answer(w, &lent[0..space], out, at)
+}
+
+// 32: type, channel, payload.
+fn answer_encode(
+    octets: &[u8],
+    marks: &[usize],
+    space: usize,
+    lent: &mut [u8],
+    out: &mut [u8],
+    at: usize,
+) -> usize
+    ensures { λ r. ⌜ r ≤ length (now (out .entry)) ⌝ }
+{
+    if line::fields(marks) != 4 || !fits(octets, marks, 1, b'o') || !fits(octets, marks, 2, b'H') {
+        return print::put(out, at, b'?');
+    }
+    match FrameType::from_u8(octet(octets, marks, 1)) {
+        KnownType::Known(frame_type) => {
+            encode_lent(frame_type, octets, marks, space, lent, out, at)
+        }
+        KnownType::Unknown => print::put(out, at, b'?'),
+    }
+}
+
+// The octets of the line are the pool.
+fn write_lent(
+    payload: Payload,
+    octets: &[u8],
+    marks: &[usize],
+    tape: &[u64],
+    space: Space,
+    lent: &mut [u8],
+    out: &mut [u8],
+    at: usize,
+) -> usize
+    ensures { λ r. ⌜ r ≤ length (now (out .entry)) ⌝ }
+{
+    let n = space_for(space, marks, tape, lent.len());
+    if lent.len() < n {
+        return print::put(out, at, b'?');
+    }
+    let channel = number16(octets, marks, 1);
+    lent::fill(&mut lent[0..n]);
+    let w = write_frame(&mut lent[0..n], 0, channel, payload, octets, tape);
+    written::answer(w, &lent[0..n], out, at)
+}
+
+fn answer_payload(
+    case: PayloadCase,
+    octets: &[u8],
+    marks: &[usize],
+    space: Space,
+    lent: &mut [u8],
+    tape: &[u64],
+    out: &mut [u8],
+    at: usize,
+) -> usize
+    ensures { λ r. ⌜ r ≤ length (now (out .entry)) ⌝ }
+{
+    match case {
+        PayloadCase::None => print::put(out, at, b'?'),
+        PayloadCase::Payload(payload, n) => {
+            if tape.len() < n {
+                return print::put(out, at, b'?');
+            }
+            write_lent(payload, octets, marks, &tape[0..n], space, lent, out, at)
+        }
+    }
+}
+
+// 32; and 43: channel, type, and the fields of the payload.
+pub fn answer(
+    op: u8,
+    octets: &[u8],
+    marks: &[usize],
+    space: Space,
+    lent: &mut [u8],
+    tape: &mut [u64],
+    out: &mut [u8],
+    at: usize,
+) -> usize
+    ensures { λ r. ⌜ r ≤ length (now (out .entry)) ⌝ }
+{
+    if op == 0x32 {
+        let n = space_for(space, marks, &tape[0..0], lent.len());
+        return answer_encode(octets, marks, n, lent, out, at);
+    }
+    let case = payload_case(octets, marks, tape);
+    answer_payload(case, octets, marks, space, lent, tape, out, at)
+}
+
+// 52 of 43: channel, the type of content headers, and what 52 of 31 has behind its operation.
+pub fn answer_repeated(
+    octets: &[u8],
+    marks: &[usize],
+    space: usize,
+    lent: &mut [u8],
+    tape: &mut [u64],
+    out: &mut [u8],
+    at: usize,
+) -> usize
+    ensures { λ r. ⌜ r ≤ length (now (out .entry)) ⌝ }
+{
+    let case = repeated_payload_case(octets, marks, tape);
+    answer_payload(
+        case,
+        octets,
+        marks,
+        Space::Octets(space),
+        lent,
+        tape,
+        out,
+        at,
+    )
+}
