@@ -4,8 +4,7 @@ ghost use Rattle.tables.specs.Letters.{errata};
 ghost use Rattle.frame.specs.Frame.{decodeAt};
 ghost use Rattle.frame.specs.Step.{body, readFrame};
 ghost use Rattle.frame.specs.Walk.{walk};
-ghost use Rattle.frame.specs.Writing.{typeOf, writeFrame};
-ghost use Rattle.frame.specs.AnswerOf.{payloadOf};
+ghost use Rattle.frame.specs.Writing.{writeFrame};
 ghost use Rattle.frame_reader.specs.AnswerOf.{answerOfReadFrame, stopRefusal};
 ghost use Rattle.amqp_ffi.specs.Reply.{reply, replyOf, replyWith, replyWithOf, walkReply, walkReplyOf, stopReply, decoded, frame, nothing};
 use crate::reply::give_three;
@@ -41,17 +40,6 @@ pub extern "C" fn amqp_decode(s: &[u8], at: usize, words: &mut [u64; 4]) -> u32
     }
 }
 
-fn type_octet(payload: Payload) -> u8
-    ensures { λ r. ⌜ r ≡ typeOf (payloadOf payload) ⌝ }
-{
-    match payload {
-        Payload::Command(_) => 1,
-        Payload::Header(_) => 2,
-        Payload::Body(_) => 3,
-        Payload::Heartbeat => 8,
-    }
-}
-
 fn reply_frame(words: &mut [u64; 4], answer: ReadFrame) -> u32
     ensures { λ r. ⌜ reply r (now (words .exit)) ≡ replyOf frame (answerOfReadFrame answer) ⌝ }
 {
@@ -62,13 +50,16 @@ fn reply_frame(words: &mut [u64; 4], answer: ReadFrame) -> u32
             payload,
             records,
             next,
-        } => give_three(
-            words,
-            next.at,
-            type_octet(payload) as u64,
-            channel as u64,
-            records as u64,
-        ),
+        } => {
+            let frame_type = payload.frame_type();
+            give_three(
+                words,
+                next.at,
+                frame_type.octet() as u64,
+                channel as u64,
+                records as u64,
+            )
+        }
     }
 }
 

@@ -1,7 +1,8 @@
 // Frames: the protocol header, the frame types, a frame's place in octets, and what its payload holds.
 ghost use mathlib.Core.Path.{_≡_};
 ghost use Rattle.frame.specs.Frame.{knownType};
-ghost use Rattle.frame.specs.AnswerOf.{typeOctet, typeOfKnown};
+ghost use Rattle.frame.specs.Writing.{typeOf};
+ghost use Rattle.frame.specs.AnswerOf.{typeOctet, typeOfKnown, payloadOf};
 use method::Command;
 use method::ContentHeader;
 use types::Span;
@@ -62,4 +63,17 @@ pub enum Payload {
     Header(ContentHeader),
     Body(Span),
     Heartbeat,
+}
+
+impl Payload {
+    pub fn frame_type(self) -> FrameType
+        ensures { λ r. ⌜ typeOctet r ≡ typeOf (payloadOf self) ⌝ }
+    {
+        match self {
+            Payload::Command(_) => FrameType::Method,
+            Payload::Header(_) => FrameType::Header,
+            Payload::Body(_) => FrameType::Body,
+            Payload::Heartbeat => FrameType::Heartbeat,
+        }
+    }
 }

@@ -1,7 +1,6 @@
 // 42: the octets consumed, type and channel of a frame, then what its payload holds.
 ghost use Prim.Native.Nat.{_≤_};
 ghost use lib.ListN.{length};
-use frame::FrameType;
 use frame::Payload;
 use frame_reader::ReadFrame;
 use frame_reader::step::read_frame;
@@ -16,15 +15,6 @@ use table_read_cases::kept;
 use table_read_cases::room_for;
 use table_read_cases::words_for;
 use types::Cursor;
-
-fn type_of(payload: Payload) -> FrameType {
-    match payload {
-        Payload::Command(_) => FrameType::Method,
-        Payload::Header(_) => FrameType::Header,
-        Payload::Body(_) => FrameType::Body,
-        Payload::Heartbeat => FrameType::Heartbeat,
-    }
-}
 
 // How many records it has: those of a header's table.
 fn records_of(payload: Payload) -> usize {
@@ -68,7 +58,7 @@ fn show(
 ) -> usize
     ensures { λ r. ⌜ r ≤ length (now (out .entry)) ⌝ }
 {
-    let octet = type_of(payload).octet();
+    let octet = payload.frame_type().octet();
     let given = print::given(out, at, next);
     let with_type = print::and_number(out, given, b' ', octet as u64);
     let with_channel = print::and_number(out, with_type, b' ', channel as u64);

@@ -109,12 +109,12 @@ module _ (p : Judged) (at : ℕ) (out : List ℕ) {start end : ℕ} (part : Payl
     pub memory : whole ≡ splice (at + 7) (p .octets) out
     pub same : length whole ≡ length out
 
-  pub accepted : {next : ℕ} {after : List ℕ} {a : Answer Unit} → 0 < length (p .octets) → outcome a after ≡ writeAt (p .refusal) (p .octets) start (take end out) → a ≡ given tt next
+  pub accepted : {next : ℕ} {after : List ℕ} {a : Answer Unit} → outcome a after ≡ writeAt (p .refusal) (p .octets) start (take end out) → a ≡ given tt next
       → Accepted next (after ++ drop end out)
-  accepted {next} {after} {a} h e g =
+  accepted {next} {after} {a} e g =
       let w = wrote (p .octets) start (take end out) (p .refusal) (rw g at e) in
       let l = length-take-le end out (part .inside) in
-      let t = part .taken (length (p .octets)) h (omega (arith, w .space)) in
+      let t = part .taken (length (p .octets)) (omega (arith, w .space)) in
       let m : after ++ drop end out ≡ splice (at + 7) (p .octets) out =
       ap (λ (xs : List ℕ). xs ++ drop end out) (w .memory)
       ∙ splice-front start (p .octets) (take end out) (drop end out) (w .space)

@@ -17,8 +17,11 @@ refuse-requires c κs = search needs
 enum-known-answer-2 : tie.Need-enum-known-answer-2
 enum-known-answer-2 c = search needs
 
-type-octet-requires : tie.Need-type-octet-requires
-type-octet-requires c κs = search needs
+frame-type-requires : tie.Need-frame-type-requires
+frame-type-requires c κs = search needs
+
+octet-requires : tie.Need-octet-requires
+octet-requires c κs = search needs
 
 cast-give-three : tie.Need-cast-give-three
 cast-give-three c = search needs
@@ -33,7 +36,7 @@ returns : tie.Need-returns
 returns c = c .refuse .ensures ∙ ap (replyOf frame) (ap answerOfReadFrame (sym (c .before .before .before .answer .given .1)))
 
 returns-2 : tie.Need-returns-2
-returns-2 c = let v = c .before .before .before .before .answer2 .given .0 in c .give-three .ensures ∙ ap (λ (t : ℕ). reply 0 (v .1 .1 .1 .0 .at ∷ t ∷ v .0 ∷ v .1 .1 .0 ∷ [])) (c .before .type-octet .ensures) ∙ ap (replyOf frame) (ap answerOfReadFrame (sym (c .before .before .before .before .answer2 .given .1)))
+returns-2 c = let v = c .before .before .before .before .before .answer2 .given .0 in c .give-three .ensures ∙ ap (λ (t : ℕ). reply 0 (v .1 .1 .1 .0 .at ∷ t ∷ v .0 ∷ v .1 .1 .0 ∷ [])) (c .before .octet .ensures ∙ c .before .before .before .frame-type .ensures) ∙ ap (replyOf frame) (ap answerOfReadFrame (sym (c .before .before .before .before .before .answer2 .given .1)))
 
 pub reply-frame-spec : {M : Type 1} → statement M
 reply-frame-spec =
@@ -42,7 +45,8 @@ reply-frame-spec =
     enum-known-answer
     refuse-requires
     enum-known-answer-2
-    type-octet-requires
+    frame-type-requires
+    octet-requires
     cast-give-three
     cast-give-three-2
     give-three-requires

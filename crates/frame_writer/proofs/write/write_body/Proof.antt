@@ -1,51 +1,57 @@
 -- `frame_writer::write::write_body` meets its contract. Assumes nothing.
+use mathlib.Core.Path.{sym, ap, _∙_}
 use native.Mathlib.Omega.{arith}
+use Rattle.method_writer.specs.AnswerOf.{answerOfPayloadSize}
+use Rattle.frame_writer.proofs.KindLaws.{body-fits, body-written, body-refused}
 use borrow.Author.Needs.{needs}
-use Rattle.frame_writer.proofs.KindLaws.{body-truncated, body-frame}
 use Rattle.frame_writer.proofs.write.write_body.Statement.{statement}
 use Rattle.frame_writer.proofs.write.write_body.Tie as tie
 
-returns : tie.Need-returns
-returns c = let a = c .before .before .before .before .args in body-truncated (a .pool .now) (a .tape .now) (a .channel) (a .at) (a .out .now) (a .span) (omega arith)
+judge-body-requires : tie.Need-judge-body-requires
+judge-body-requires c κs = search needs
 
-sub-if2 : tie.Need-sub-if2
-sub-if2 c = search needs
+enum-known-e : tie.Need-enum-known-e
+enum-known-e c = search needs
 
-returns-2 : tie.Need-returns-2
-returns-2 c = let a = c .before .before .before .before .before .before .args in body-truncated (a .pool .now) (a .tape .now) (a .channel) (a .at) (a .out .now) (a .span) (omega arith)
+enum-known-n : tie.Need-enum-known-n
+enum-known-n c = search needs
 
 add-end : tie.Need-add-end
-add-end c = search needs
+add-end c = let a = c .before .before .before .before .before .before .args in let f = body-fits (a .pool .now) (a .span) (sym (ap answerOfPayloadSize (c .before .n .given .1)) ∙ c .before .before .before .judge-body .ensures) in omega (arith, f .0, f .1)
 
-sub-encode : tie.Need-sub-encode
-sub-encode c = search needs
+sub-write-octets : tie.Need-sub-write-octets
+sub-write-octets c = search needs
 
-part-encode-start : tie.Need-part-encode-start
-part-encode-start c = search needs
+part-write-octets-start : tie.Need-part-write-octets-start
+part-write-octets-start c = search needs
 
-part-encode-end : tie.Need-part-encode-end
-part-encode-end c = search needs
+part-write-octets-end : tie.Need-part-write-octets-end
+part-write-octets-end c = let a = c .before .before .before .before .before .before .before .args in let f = body-fits (a .pool .now) (a .span) (sym (ap answerOfPayloadSize (c .before .before .n .given .1)) ∙ c .before .before .before .before .judge-body .ensures) in omega (arith, f .0, f .1)
 
-encode-requires : tie.Need-encode-requires
-encode-requires c κs = search needs
+write-octets-requires : tie.Need-write-octets-requires
+write-octets-requires c κs = search needs
+
+returns : tie.Need-returns
+returns c = let a = c .before .before .before .before .before .before .args in body-refused (a .pool .now) (a .span) (a .at) (a .out .now) (sym (ap answerOfPayloadSize (c .before .e .given .1)) ∙ c .before .before .before .judge-body .ensures)
 
 same-length : tie.Need-same-length
 same-length c = search needs
 
-returns-3 : tie.Need-returns-3
-returns-3 c = let a = c .before .before .before .before .before .before .before .before .before .before .before .before .args in body-frame (a .pool .now) (a .tape .now) (a .channel) (a .at) (a .out .now) (a .span) (omega arith) (c .before .before .encode .ensures)
+returns-2 : tie.Need-returns-2
+returns-2 c = let a = c .before .before .before .before .before .before .before .before .before .before .before .args in body-written (a .pool .now) (a .span) (sym (ap answerOfPayloadSize (c .before .before .before .before .before .before .n .given .1)) ∙ c .before .before .before .before .before .before .before .before .judge-body .ensures) (a .at) (a .out .now) (c .before .before .write-octets .ensures)
 
 pub write-body-spec : {M : Type 1} → statement M
 write-body-spec =
     tie.close
     (tie.spec
-    returns
-    sub-if2
-    returns-2
+    judge-body-requires
+    enum-known-e
+    enum-known-n
     add-end
-    sub-encode
-    part-encode-start
-    part-encode-end
-    encode-requires
+    sub-write-octets
+    part-write-octets-start
+    part-write-octets-end
+    write-octets-requires
+    returns
     same-length
-    returns-3)
+    returns-2)
