@@ -45,12 +45,7 @@ fn reply_frame(words: &mut [u64; 4], answer: ReadFrame) -> u32
 {
     match answer {
         ReadFrame::Refused(e) => refuse(words, e),
-        ReadFrame::Value {
-            channel,
-            payload,
-            records,
-            next,
-        } => {
+        ReadFrame::Value(channel, payload, records, next) => {
             let frame_type = payload.frame_type();
             give_three(
                 words,

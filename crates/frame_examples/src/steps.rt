@@ -80,12 +80,7 @@ fn reads(s: &[u8], octet: u8, expected: u16, words: &[u64]) -> bool {
     let r = read_frame(s, Cursor { at: 0 }, &mut tape, 0);
     match r {
         ReadFrame::Refused(_) => false,
-        ReadFrame::Value {
-            channel,
-            payload,
-            records,
-            next,
-        } => {
+        ReadFrame::Value(channel, payload, records, next) => {
             type_of(payload) == octet
                 && channel == expected
                 && is_expected(payload)
@@ -101,12 +96,7 @@ fn refuses(s: &[u8], number: u8, values: &[u64]) -> bool {
     let r = read_frame(s, Cursor { at: 0 }, &mut tape, 0);
     match r {
         ReadFrame::Refused(e) => same::refusal(e, number, values) && lent::kept_words(&tape, 0),
-        ReadFrame::Value {
-            channel: _,
-            payload: _,
-            records: _,
-            next: _,
-        } => false,
+        ReadFrame::Value(_, _, _, _) => false,
     }
 }
 
@@ -138,12 +128,9 @@ pub fn rewrites(s: &[u8], at: usize, end: usize) -> bool {
     }
     match r {
         ReadFrame::Refused(_) => false,
-        ReadFrame::Value {
-            channel,
-            payload,
-            records,
-            next,
-        } => { next.at == end && write_again(channel, payload, records, s, &tape, &s[at..end]) }
+        ReadFrame::Value(channel, payload, records, next) => {
+            next.at == end && write_again(channel, payload, records, s, &tape, &s[at..end])
+        }
     }
 }
 

@@ -70,12 +70,7 @@ fn judge(r: ReadFrame, s: &[u8], tape: &[u64], by_words: bool, out: &mut [u8], a
     ensures { λ r. ⌜ r ≤ length (now (out .entry)) ⌝ }
 {
     match r {
-        ReadFrame::Value {
-            channel,
-            payload,
-            records,
-            next,
-        } => {
+        ReadFrame::Value(channel, payload, records, next) => {
             if records_of(payload) != records || !kept(tape, records) {
                 return print::text(out, at, b"# changed");
             }

@@ -15,14 +15,9 @@ pub enum Decoded {
     Refused(WireError),
 }
 
-// A frame that was read, the number of its tape records, and the cursor after it.
+// Channel and payload of a frame that was read, the number of its tape records, and the cursor after it.
 pub enum ReadFrame {
-    Value {
-        channel: u16,
-        payload: Payload,
-        records: usize,
-        next: Cursor,
-    },
+    Value(u16, Payload, usize, Cursor),
     Refused(WireError),
 }
 

@@ -34,12 +34,12 @@ fn read_payload(s: &[u8], frame: Frame, next: Cursor, tape: &mut [u64], used: us
     match frame_type {
         FrameType::Method => match read_command(&s[..end], Cursor { at: start }, tape, used) {
             ReadCommand::Refused(e) => ReadFrame::Refused(e),
-            ReadCommand::Value(command, records, _) => ReadFrame::Value {
+            ReadCommand::Value(command, records, _) => ReadFrame::Value(
                 channel,
-                payload: Payload::Command(command),
+                Payload::Command(command),
                 records,
                 next,
-            },
+            ),
         },
         FrameType::Header => match read_content_header(
             &s[..end],
@@ -48,29 +48,19 @@ fn read_payload(s: &[u8], frame: Frame, next: Cursor, tape: &mut [u64], used: us
             used,
         ) {
             ReadContentHeader::Refused(e) => ReadFrame::Refused(e),
-            ReadContentHeader::Value(header, records, _) => ReadFrame::Value {
+            ReadContentHeader::Value(header, records, _) => ReadFrame::Value(
                 channel,
-                payload: Payload::Header(header),
+                Payload::Header(header),
                 records,
                 next,
-            },
+            ),
         },
-        FrameType::Body => ReadFrame::Value {
-            channel,
-            payload: Payload::Body(span),
-            records: 0,
-            next,
-        },
+        FrameType::Body => ReadFrame::Value(channel, Payload::Body(span), 0, next),
         FrameType::Heartbeat => {
             if start < end {
                 return ReadFrame::Refused(WireError::NotWritten(start));
             }
-            ReadFrame::Value {
-                channel,
-                payload: Payload::Heartbeat,
-                records: 0,
-                next,
-            }
+            ReadFrame::Value(channel, Payload::Heartbeat, 0, next)
         }
     }
 }
