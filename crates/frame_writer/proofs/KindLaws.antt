@@ -22,13 +22,13 @@ use Rattle.tables.specs.Writing.{inPool}
 use Rattle.table_writer.specs.Sizes.{sized}
 use Rattle.method.specs.Fields.{Returned}
 use Rattle.frame.specs.Step.{Payload, command, header, body, heartbeat}
-use Rattle.frame.specs.Writing.{typeOf, sentPayloadMeaning, frameRefusal, writeFrame}
-use Rattle.frame_writer.specs.Parts.{judgedPayload, payloadOctets}
+use Rattle.frame.specs.Writing.{typeOf, sentPayloadMeaning, payloadRefusal, frameRefusal, writeFrame}
+use Rattle.frame_writer.specs.Parts.{payloadOctets}
 use Rattle.frame_writer.proofs.PayloadLaws.{Judged, writeWith}
 
 module _ (pool tape : List ℕ) where
   abbrev pub payloadJudged : Payload Returned Span → Judged
-  payloadJudged x = record { refusal = judgedPayload pool tape x; octets = payloadOctets pool tape x }
+  payloadJudged x = record { refusal = payloadRefusal errata pool tape x; octets = payloadOctets pool tape x }
 
   type-sent : (x : Payload Returned Span) → typeOf (sentPayloadMeaning errata pool tape x) ≡ typeOf x
   type-sent (command x) = refl

@@ -2,7 +2,6 @@
 use mathlib.Core.Path.{_≡_}
 use mathlib.Core.Logic.{_⊎_, inl, inr}
 use mathlib.Core.Bool.{cond}
-use mathlib.Core.Option.{Option}
 use mathlib.Core.List.{List, _++_}
 use Prim.Native.Nat.{ℕ, _+_, _≤_}
 use lib.ListN.{length}
@@ -13,7 +12,7 @@ use Rattle.types.specs.declared.Span.{Span}
 use Rattle.tables.specs.Letters.{errata}
 use Rattle.method.specs.Fields.{Returned}
 use Rattle.frame.specs.Step.{Payload}
-use Rattle.frame.specs.Writing.{sentPayloadMeaning, framePayloadOctets, payloadRefusal}
+use Rattle.frame.specs.Writing.{sentPayloadMeaning, framePayloadOctets}
 
 -- type octet, channel and size
 abbrev pub frameHead : ℕ → ℕ → ℕ → List ℕ
@@ -30,10 +29,6 @@ abbrev pub whyNot : ℕ ⊎ Refusal → Refusal
 whyNot (inl n) = cond (leb n 4294967295) noSpace tooLong
 whyNot (inr r) = r
 
--- what is refused of a payload, given space enough, and its octets
-
-abbrev pub judgedPayload : List ℕ → List ℕ → Payload Returned Span → Option Refusal
-judgedPayload pool tape x = payloadRefusal errata pool tape x
-
+-- the octets of a payload as they are sent
 abbrev pub payloadOctets : List ℕ → List ℕ → Payload Returned Span → List ℕ
 payloadOctets pool tape x = framePayloadOctets errata (sentPayloadMeaning errata pool tape x)

@@ -12,9 +12,9 @@ ghost use Rattle.tables.specs.Letters.{errata};
 ghost use Rattle.tables.specs.Writing.{inPool};
 ghost use Rattle.table_writer.specs.Sizes.{sized};
 ghost use Rattle.method_writer.specs.AnswerOf.{answerOfPayloadSize};
-ghost use Rattle.frame.specs.Writing.{writeFrame};
+ghost use Rattle.frame.specs.Writing.{payloadRefusal, writeFrame};
 ghost use Rattle.frame.specs.AnswerOf.{payloadOf};
-ghost use Rattle.frame_writer.specs.Parts.{PayloadPart, whyNot, judgedPayload, payloadOctets};
+ghost use Rattle.frame_writer.specs.Parts.{PayloadPart, whyNot, payloadOctets};
 use crate::encode::MAX_LENGTH;
 use crate::encode::close_frame;
 use frame::Payload;
@@ -74,7 +74,7 @@ fn judge_body(span: Span, pool: &[u8]) -> PayloadSize
 
 // Judges a payload as its writer does, but for the space.
 fn judge_payload(payload: Payload, pool: &[u8], tape: &[u64]) -> PayloadSize
-    ensures { λ r. ⌜ answerOfPayloadSize r ≡ sized (judgedPayload (now (pool .entry)) (now (tape .entry)) (payloadOf payload)) (length (payloadOctets (now (pool .entry)) (now (tape .entry)) (payloadOf payload))) ⌝ }
+    ensures { λ r. ⌜ answerOfPayloadSize r ≡ sized (payloadRefusal errata (now (pool .entry)) (now (tape .entry)) (payloadOf payload)) (length (payloadOctets (now (pool .entry)) (now (tape .entry)) (payloadOf payload))) ⌝ }
 {
     match payload {
         Payload::Command(command) => judge_command(command, pool, tape),
@@ -99,7 +99,7 @@ fn write_body(out: &mut [u8], at: usize, span: Span, pool: &[u8]) -> Written
 
 // Writes a payload by itself.
 fn write_payload(out: &mut [u8], at: usize, payload: Payload, pool: &[u8], tape: &[u64]) -> Written
-    ensures { λ r. ⌜ outcome (answerOfWritten r) (now (out .exit)) ≡ writeAt (judgedPayload (now (pool .entry)) (now (tape .entry)) (payloadOf payload)) (payloadOctets (now (pool .entry)) (now (tape .entry)) (payloadOf payload)) at (now (out .entry)) ⌝ }
+    ensures { λ r. ⌜ outcome (answerOfWritten r) (now (out .exit)) ≡ writeAt (payloadRefusal errata (now (pool .entry)) (now (tape .entry)) (payloadOf payload)) (payloadOctets (now (pool .entry)) (now (tape .entry)) (payloadOf payload)) at (now (out .entry)) ⌝ }
 {
     match payload {
         Payload::Command(command) => write_command(out, at, command, pool, tape),
