@@ -47,7 +47,3 @@ frameOctets type channel payload = octets 1 type ++ (octets 2 channel ++ (octets
 
 unfoldable pub encode : ℕ → ℕ → List ℕ → ℕ → List ℕ → Outcome Unit
 encode type channel payload at out = writeAt (judgeLength (length payload)) (frameOctets type channel payload) at out
-
--- "AMQP", 0, 0, 9, 1
-abbrev pub protocolHeader : List ℕ
-protocolHeader = 65 ∷ 77 ∷ 81 ∷ 80 ∷ 0 ∷ 0 ∷ 9 ∷ 1 ∷ []
