@@ -5,7 +5,6 @@ use frame_read_cases::decode;
 use frame_read_cases::step;
 use frame_read_cases::walk;
 use lines::line;
-use lines::print;
 use method_read_cases::commands;
 use method_read_cases::headers;
 use table_write_cases::Space;

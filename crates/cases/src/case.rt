@@ -3,7 +3,6 @@ ghost use Prim.Native.Nat.{_≤_};
 ghost use lib.ListN.{length};
 use crate::reading;
 use crate::writing;
-use lines::print;
 
 pub fn answer(
     op: u8,

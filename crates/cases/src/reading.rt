@@ -8,8 +8,8 @@ use bits::unsigned8;
 use bits::unsigned16;
 use bits::unsigned32;
 use bits::unsigned64;
+use lines::answer;
 use lines::line;
-use lines::print;
 use types::Cursor;
 use types::ReadF32;
 use types::ReadF64;
@@ -177,14 +177,14 @@ pub(crate) fn answer(op: u8, octets: &[u8], marks: &[usize], out: &mut [u8], at:
     let s = line::field(octets, marks, 1);
     match read(op, s) {
         Reading::Number(n, next) => {
-            let end = print::given(out, at, next.at);
-            print::and_number(out, end, b' ', n)
+            let end = answer::given(out, at, next.at);
+            answer::and_number(out, end, b' ', n)
         }
         Reading::Octets(v, next) => {
-            let end = print::given(out, at, next.at);
-            print::and_span(out, end, b' ', s, v)
+            let end = answer::given(out, at, next.at);
+            answer::and_span(out, end, b' ', s, v)
         }
-        Reading::Nothing(next) => print::given(out, at, next.at),
-        Reading::Refused(e) => print::refused(out, at, e),
+        Reading::Nothing(next) => answer::given(out, at, next.at),
+        Reading::Refused(e) => answer::refused(out, at, e),
     }
 }

@@ -1,9 +1,9 @@
 // The operations that write: 35 pack_bits, 36 write_short_str, 37 write_long_str.
 ghost use Prim.Native.Nat.{_≤_};
 ghost use lib.ListN.{length};
+use lines::answer;
 use lines::lent;
 use lines::line;
-use lines::print;
 use lines::written;
 use writers::Written;
 
@@ -93,5 +93,5 @@ pub(crate) fn answer_bits(octets: &[u8], marks: &[usize], out: &mut [u8], at: us
         s[7] == 1,
     ];
     let packed = [bits::pack_bits(flags)];
-    print::written(out, at, &packed)
+    answer::written(out, at, &packed)
 }

@@ -4,8 +4,8 @@ ghost use lib.ListN.{length};
 use frame::Frame;
 use frame_reader::Decoded;
 use frame_reader::decode::decode;
+use lines::answer;
 use lines::line;
-use lines::print;
 use types::Cursor;
 
 fn show(frame: Frame, consumed: usize, s: &[u8], out: &mut [u8], at: usize) -> usize
@@ -13,10 +13,10 @@ fn show(frame: Frame, consumed: usize, s: &[u8], out: &mut [u8], at: usize) -> u
 {
     let frame_type = frame.frame_type;
     let payload = frame.payload;
-    let given = print::given(out, at, consumed);
-    let with_type = print::and_number(out, given, b' ', frame_type.octet() as u64);
-    let with_channel = print::and_number(out, with_type, b' ', frame.channel as u64);
-    print::and_span(out, with_channel, b' ', s, payload)
+    let given = answer::given(out, at, consumed);
+    let with_type = answer::and_number(out, given, b' ', frame_type.octet() as u64);
+    let with_channel = answer::and_number(out, with_type, b' ', frame.channel as u64);
+    answer::and_span(out, with_channel, b' ', s, payload)
 }
 
 pub fn answer(octets: &[u8], marks: &[usize], out: &mut [u8], at: usize) -> usize
@@ -28,6 +28,6 @@ pub fn answer(octets: &[u8], marks: &[usize], out: &mut [u8], at: usize) -> usiz
     let s = line::field(octets, marks, 1);
     match decode(s, Cursor { at: 0 }) {
         Decoded::Value(frame, next) => show(frame, next.at, s, out, at),
-        Decoded::Refused(e) => print::refused(out, at, e),
+        Decoded::Refused(e) => answer::refused(out, at, e),
     }
 }

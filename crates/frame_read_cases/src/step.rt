@@ -4,9 +4,9 @@ ghost use lib.ListN.{length};
 use frame::Payload;
 use frame_reader::ReadFrame;
 use frame_reader::step::read_frame;
+use lines::answer;
 use lines::lent;
 use lines::line;
-use lines::print;
 use method_read_cases::commands::and_command;
 use method_read_cases::headers::and_header;
 use method_read_cases::headers::header_records;
@@ -39,8 +39,8 @@ fn and_payload(
         Payload::Command(command) => and_command(command, s, out, at),
         Payload::Header(header) => and_header(header, s, tape, by_words, out, at),
         Payload::Body(span) => {
-            let next = print::and_number(out, at, b' ', span.start as u64);
-            print::and_number(out, next, b' ', span.len as u64)
+            let next = answer::and_number(out, at, b' ', span.start as u64);
+            answer::and_number(out, next, b' ', span.len as u64)
         }
         Payload::Heartbeat => at,
     }
@@ -59,9 +59,9 @@ fn show(
     ensures { λ r. ⌜ r ≤ length (now (out .entry)) ⌝ }
 {
     let octet = payload.frame_type().octet();
-    let given = print::given(out, at, next);
-    let with_type = print::and_number(out, given, b' ', octet as u64);
-    let with_channel = print::and_number(out, with_type, b' ', channel as u64);
+    let given = answer::given(out, at, next);
+    let with_type = answer::and_number(out, given, b' ', octet as u64);
+    let with_channel = answer::and_number(out, with_type, b' ', channel as u64);
     and_payload(payload, s, tape, by_words, out, with_channel)
 }
 
@@ -80,7 +80,7 @@ fn judge(r: ReadFrame, s: &[u8], tape: &[u64], by_words: bool, out: &mut [u8], a
             if !kept(tape, 0) {
                 return print::text(out, at, b"# changed");
             }
-            print::refused(out, at, e)
+            answer::refused(out, at, e)
         }
     }
 }

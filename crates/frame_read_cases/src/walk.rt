@@ -6,9 +6,9 @@ use frame_reader::Stop;
 use frame_reader::Walked;
 use frame_reader::walk::ENTRY_WORDS;
 use frame_reader::walk::walk;
+use lines::answer;
 use lines::lent;
 use lines::line;
-use lines::print;
 use table_read_cases::record;
 use tables::tape::RECORD_WORDS;
 
@@ -83,9 +83,9 @@ fn entry(register: &[u64], k: usize, out: &mut [u8], at: usize) -> usize
         return print::text(out, at, b" ?");
     }
     let i = k * ENTRY_WORDS;
-    let first = print::and_number(out, at, b' ', register[i]);
-    let before = print::and_number(out, first, b':', register[i + 1]);
-    print::and_number(out, before, b':', register[i + 2])
+    let first = answer::and_number(out, at, b' ', register[i]);
+    let before = answer::and_number(out, first, b':', register[i + 1]);
+    answer::and_number(out, before, b':', register[i + 2])
 }
 
 fn entries(register: &[u64], count: usize, out: &mut [u8], at: usize) -> usize
@@ -121,7 +121,7 @@ fn and_stop(stop: Stop, out: &mut [u8], at: usize) -> usize
         Stop::None => print::text(out, at, b" -"),
         Stop::Refused(e) => {
             let next = print::put(out, at, b' ');
-            print::refusal(out, next, b',', e)
+            answer::refusal(out, next, b',', e)
         }
     }
 }
@@ -135,8 +135,8 @@ fn judge(w: Walked, tape: &[u64], register: &[u64], out: &mut [u8], at: usize) -
     if !kept(tape, count, register, frames) {
         return print::text(out, at, b"# changed");
     }
-    let given = print::given(out, at, w.consumed);
-    let with_frames = print::and_number(out, given, b' ', frames as u64);
+    let given = answer::given(out, at, w.consumed);
+    let with_frames = answer::and_number(out, given, b' ', frames as u64);
     let with_stop = and_stop(stop, out, with_frames);
     let with_entries = entries(register, frames, out, with_stop);
     records(tape, count, out, with_entries)

@@ -13,9 +13,9 @@ use frame::PROTOCOL_HEADER;
 use frame::Payload;
 use frame_writer::encode::encode;
 use frame_writer::write::write_frame;
+use lines::answer;
 use lines::lent;
 use lines::line;
-use lines::print;
 use lines::written;
 use method_write_cases::arguments::fits;
 use method_write_cases::arguments::number16;
@@ -31,7 +31,7 @@ pub fn answer_protocol_header(marks: &[usize], out: &mut [u8], at: usize) -> usi
         return print::put(out, at, b'?');
     }
     let octets = PROTOCOL_HEADER;
-    print::written(out, at, &octets)
+    answer::written(out, at, &octets)
 }
 
 fn encode_lent(

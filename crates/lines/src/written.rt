@@ -1,8 +1,8 @@
 // The answer of a writer, if it has changed nothing behind what it says that it has written.
 ghost use Prim.Native.Nat.{_≤_};
 ghost use lib.ListN.{length};
+use crate::answer;
 use crate::lent;
-use crate::print;
 use writers::Written;
 
 pub fn answer(w: Written, lent: &[u8], out: &mut [u8], at: usize) -> usize
@@ -11,13 +11,13 @@ pub fn answer(w: Written, lent: &[u8], out: &mut [u8], at: usize) -> usize
     match w {
         Written::Next(n) => {
             if n <= lent.len() && lent::kept(lent, n) {
-                return print::written(out, at, &lent[0..n]);
+                return answer::written(out, at, &lent[0..n]);
             }
             print::text(out, at, b"# changed")
         }
         Written::Refused(e) => {
             if lent::kept(lent, 0) {
-                return print::refused(out, at, e);
+                return answer::refused(out, at, e);
             }
             print::text(out, at, b"# changed")
         }

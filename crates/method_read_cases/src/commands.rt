@@ -1,9 +1,9 @@
 // 40: class, method and arguments of a command.
 ghost use Prim.Native.Nat.{_≤_};
 ghost use lib.ListN.{length};
+use lines::answer;
 use lines::lent;
 use lines::line;
-use lines::print;
 use method::Command;
 use method_reader::ReadCommand;
 use method_reader::commands::read_command;
@@ -174,8 +174,8 @@ fn and_argument(v: Argument, s: &[u8], out: &mut [u8], at: usize) -> usize
 {
     match v {
         Argument::None => at,
-        Argument::Octets(v) => print::and_span(out, at, b' ', s, v),
-        Argument::Number(n) => print::and_number(out, at, b' ', n),
+        Argument::Octets(v) => answer::and_span(out, at, b' ', s, v),
+        Argument::Number(n) => answer::and_number(out, at, b' ', n),
     }
 }
 
@@ -186,8 +186,8 @@ fn show(c: Shown, s: &[u8], out: &mut [u8], at: usize) -> usize
     let first = c.first;
     let second = c.second;
     let third = c.third;
-    let class = print::and_number(out, at, b' ', c.class);
-    let method = print::and_number(out, class, b' ', c.method);
+    let class = answer::and_number(out, at, b' ', c.class);
+    let method = answer::and_number(out, class, b' ', c.method);
     let with_one = and_argument(first, s, out, method);
     let with_two = and_argument(second, s, out, with_one);
     and_argument(third, s, out, with_two)
@@ -210,10 +210,10 @@ fn judge(r: ReadCommand, s: &[u8], tape: &[u64], out: &mut [u8], at: usize) -> u
             if count != 0 {
                 return print::text(out, at, b"# changed");
             }
-            let given = print::given(out, at, next.at);
+            let given = answer::given(out, at, next.at);
             and_command(c, s, out, given)
         }
-        ReadCommand::Refused(e) => print::refused(out, at, e),
+        ReadCommand::Refused(e) => answer::refused(out, at, e),
     }
 }
 

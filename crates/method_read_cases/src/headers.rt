@@ -1,9 +1,9 @@
 // 07: the body size, then each present property behind its flag.
 ghost use Prim.Native.Nat.{_≤_};
 ghost use lib.ListN.{length};
+use lines::answer;
 use lines::lent;
 use lines::line;
-use lines::print;
 use method::ContentHeader;
 use method::ContentProperties;
 use method::OptSpan;
@@ -116,7 +116,7 @@ fn and_property(
         Property::Octets(v) => {
             let next = print::put(out, at, b' ');
             let end = print::decimal(out, next, flag);
-            print::and_span(out, end, b'=', s, v)
+            answer::and_span(out, end, b'=', s, v)
         }
         Property::Number(n) => {
             let next = head(flag, out, at);
@@ -141,7 +141,7 @@ pub fn and_header(
     ensures { λ r. ⌜ r ≤ length (now (out .entry)) ⌝ }
 {
     let properties = header.properties;
-    let mut next = print::and_number(out, at, b' ', header.body_size);
+    let mut next = answer::and_number(out, at, b' ', header.body_size);
     let mut flag = FIRST;
     while LAST <= flag {
         let v = property_of(properties, flag);
@@ -184,7 +184,7 @@ fn judge(
             if !kept(tape, 0) {
                 return print::text(out, at, b"# changed");
             }
-            print::refused(out, at, e)
+            answer::refused(out, at, e)
         }
     }
 }

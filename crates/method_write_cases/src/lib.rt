@@ -13,7 +13,6 @@ use crate::headers::HeaderCase;
 use crate::headers::header_case;
 use crate::headers::repeated_header_case;
 use lines::lent;
-use lines::print;
 use lines::written;
 use method::Command;
 use method::ContentHeader;

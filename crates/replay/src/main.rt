@@ -1,7 +1,6 @@
 // Answers cases, one to a line of standard input, by a line each on standard output: the crate `lines` has their form.
 use libc::STDERR_FILENO;
 use libc::STDIN_FILENO;
-use lines::print;
 
 // How many octets a line has that its buffer does not hold.
 const TOO_LONG: usize = usize::MAX;

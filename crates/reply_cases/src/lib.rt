@@ -3,8 +3,8 @@
 // 28 content_header_body_size. The crate `lines` has their form.
 ghost use Prim.Native.Nat.{_≤_};
 ghost use lib.ListN.{length};
+use lines::answer;
 use lines::line;
-use lines::print;
 use replies::ReadMethodId;
 use replies::ReadTuneParams;
 use types::Cursor;
@@ -81,24 +81,24 @@ fn show(r: Reply, s: &[u8], out: &mut [u8], at: usize) -> usize
     match r {
         Reply::One(n) => {
             let next = print::text(out, at, b"= -");
-            print::and_number(out, next, b' ', n)
+            answer::and_number(out, next, b' ', n)
         }
         Reply::Two(n, m) => {
             let next = print::text(out, at, b"= -");
-            let end = print::and_number(out, next, b' ', n);
-            print::and_number(out, end, b' ', m)
+            let end = answer::and_number(out, next, b' ', n);
+            answer::and_number(out, end, b' ', m)
         }
         Reply::Three(n, m, k) => {
             let next = print::text(out, at, b"= -");
-            let middle = print::and_number(out, next, b' ', n);
-            let end = print::and_number(out, middle, b' ', m);
-            print::and_number(out, end, b' ', k)
+            let middle = answer::and_number(out, next, b' ', n);
+            let end = answer::and_number(out, middle, b' ', m);
+            answer::and_number(out, end, b' ', k)
         }
         Reply::Octets(v) => {
             let next = print::text(out, at, b"= -");
-            print::and_span(out, next, b' ', s, v)
+            answer::and_span(out, next, b' ', s, v)
         }
-        Reply::Refused(e) => print::refused(out, at, e),
+        Reply::Refused(e) => answer::refused(out, at, e),
     }
 }
 

@@ -7,9 +7,9 @@ ghost use lib.ListN.{length};
 
 pub mod record;
 
+use lines::answer;
 use lines::lent;
 use lines::line;
-use lines::print;
 use table_reader::ReadRecords;
 use table_reader::read_field_table;
 use table_reader::read_field_value;
@@ -95,7 +95,7 @@ fn judge(r: ReadRecords, s: &[u8], tape: &[u64], by_words: bool, out: &mut [u8],
             if !kept(tape, count) {
                 return print::text(out, at, b"# changed");
             }
-            let given = print::given(out, at, next.at);
+            let given = answer::given(out, at, next.at);
             let end = print::put(out, given, b' ');
             records(s, tape, count, by_words, out, end)
         }
@@ -103,7 +103,7 @@ fn judge(r: ReadRecords, s: &[u8], tape: &[u64], by_words: bool, out: &mut [u8],
             if !kept(tape, 0) {
                 return print::text(out, at, b"# changed");
             }
-            print::refused(out, at, e)
+            answer::refused(out, at, e)
         }
     }
 }

@@ -7,7 +7,7 @@ use bits::unsigned8;
 use bits::unsigned16;
 use bits::unsigned32;
 use bits::unsigned64;
-use lines::print;
+use lines::answer;
 use tables::Kind;
 use tables::ReadRecord;
 use tables::letters::kind_of;
@@ -64,7 +64,7 @@ fn head(letter: u8, s: &[u8], name: Span, out: &mut [u8], at: usize) -> usize
     ensures { λ r. ⌜ r ≤ length (now (out .entry)) ⌝ }
 {
     let next = print::put(out, at, letter);
-    let end = print::and_span(out, next, b':', s, name);
+    let end = answer::and_span(out, next, b':', s, name);
     print::put(out, end, b':')
 }
 
@@ -79,12 +79,12 @@ fn with_value(v: Shown, s: &[u8], name: Span, out: &mut [u8], at: usize) -> usiz
         Shown::Pair(letter, n, m) => {
             let next = head(letter, s, name, out, at);
             let end = print::hex(out, next, n);
-            print::and_number(out, end, b',', m)
+            answer::and_number(out, end, b',', m)
         }
         Shown::Octets(letter, v) => {
             let next = print::put(out, at, letter);
-            let end = print::and_span(out, next, b':', s, name);
-            print::and_span(out, end, b':', s, v)
+            let end = answer::and_span(out, next, b':', s, name);
+            answer::and_span(out, end, b':', s, v)
         }
         Shown::Nothing(letter) => {
             let next = head(letter, s, name, out, at);
@@ -112,7 +112,7 @@ pub(crate) fn contents(s: &[u8], tape: &[u64], k: usize, out: &mut [u8], at: usi
                 LeafValue::None => container(letter),
             };
             let end = with_value(v, s, name, out, next);
-            print::and_number(out, end, b':', beneath)
+            answer::and_number(out, end, b':', beneath)
         }
     }
 }
@@ -124,12 +124,12 @@ pub fn words(tape: &[u64], k: usize, out: &mut [u8], at: usize) -> usize
     match record_at(tape, k) {
         ReadRecord::Refused(_) => print::text(out, at, b" ?"),
         ReadRecord::Value(r) => {
-            let letter = print::and_number(out, at, b' ', r.letter);
-            let start = print::and_number(out, letter, b':', r.name.start as u64);
-            let len = print::and_number(out, start, b':', r.name.len as u64);
-            let first = print::and_number(out, len, b':', r.first);
-            let second = print::and_number(out, first, b':', r.second);
-            print::and_number(out, second, b':', r.beneath as u64)
+            let letter = answer::and_number(out, at, b' ', r.letter);
+            let start = answer::and_number(out, letter, b':', r.name.start as u64);
+            let len = answer::and_number(out, start, b':', r.name.len as u64);
+            let first = answer::and_number(out, len, b':', r.first);
+            let second = answer::and_number(out, first, b':', r.second);
+            answer::and_number(out, second, b':', r.beneath as u64)
         }
     }
 }

@@ -5,7 +5,6 @@ ghost use Prim.Native.Nat.{_≤_};
 ghost use lib.ListN.{length};
 use lines::lent;
 use lines::line;
-use lines::print;
 use lines::written;
 use table_writer::write_field_table;
 use table_writer::write_field_value;

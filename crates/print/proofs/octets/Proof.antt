@@ -1,10 +1,10 @@
--- `lines::print::text` meets its contract. Assumes nothing.
+-- `print::octets` meets its contract. Assumes nothing.
 use mathlib.Core.Path.{_≡_}
 use Prim.Native.Nat.{_-_, _≤_}
 use lib.ListN.{length}
 use borrow.Author.Needs.{needs}
-use Rattle.lines.proofs.print.text.Statement.{statement}
-use Rattle.lines.proofs.print.text.Tie as tie
+use Rattle.print.proofs.octets.Statement.{statement}
+use Rattle.print.proofs.octets.Tie as tie
 
 abbrev Inv-loop : tie.InvT-loop
 Inv-loop out₀ at s next₀ i₀ out next i = (length out ≡ length out₀) × (next ≤ length out₀)
@@ -12,12 +12,15 @@ Inv-loop out₀ at s next₀ i₀ out next i = (length out ≡ length out₀) ×
 abbrev μ-loop : tie.MeasureT-loop
 μ-loop out₀ at s next₀ i₀ out next i = length s - i
 
-pub text-spec : {M : Type 1} → statement M
-text-spec =
+pub octets-spec : {M : Type 1} → statement M
+octets-spec =
     tie.close
     (tie.spec
     Inv-loop
     μ-loop
+    (λ c. search needs)
+    (λ c. search needs)
+    (λ c. search needs)
     (λ c. search needs)
     (λ c. search needs)
     (λ c. search needs)

@@ -1,0 +1,2 @@
+-- The specification of the reader.
+pub mod Reading
