@@ -8,7 +8,7 @@ use Rattle.tables.specs.Letters.{Letters}
 use Rattle.method.specs.Fields.{Returned}
 use Rattle.method.specs.Commands.{Command}
 use Rattle.method.specs.Pooled.{writeCommandPooled}
-use Rattle.method_reader.specs.Fields.{commandWith}
+use Rattle.method_words.specs.Words.{commandWith}
 
 module _ (letters : Letters) (pool tape : List ℕ) (c m : ℕ) where
   abbrev pub writeIfKnown : Option (Command Returned) → ℕ → List ℕ → Outcome Unit

@@ -6,8 +6,6 @@ use mathlib.Core.List.{List, [], _∷_, _++_, append-nil}
 use Prim.Native.Nat.{ℕ, suc, _+_, _-_, _*_, _^_, _/_, _%_, _≤_, _<_}
 use native.Mathlib.Nat.{mod-eq-of-lt, zero-add}
 use native.Mathlib.Omega.{arith}
-use mir.Syntax.{w64}
-use mir.Val.{Fits}
 use borrow.Author.Tests.{eqb-true}
 use lib.ListN.{length, drop}
 use lib.Dec.{leb, eqb}
@@ -35,15 +33,12 @@ use Rattle.method.specs.Reading.{flagsIn, withFlag, writtenAt, argAt, argTape, 
 use Rattle.method.specs.Words.{argsWords, argsFrom}
 use Rattle.method.proofs.LayoutLaws.{every-command}
 use Rattle.method.proofs.WordLaws.{FlagFit, FlagsFit, args-words}
-use Rattle.method_reader.specs.Fields.{FieldsRead, tableAfter, lastTable, scanAt, FieldsStored, noTable, tableFilled, cutArg, cutArgs}
+use Rattle.method_words.specs.Words.{cutArg, cutArgs}
+use Rattle.method_reader.specs.Fields.{FieldsRead, tableAfter, lastTable, scanAt, FieldsStored, noTable, tableFilled}
 use Rattle.method_reader.specs.AnswerOf.{answerOfFields}
 use Rattle.method_reader.specs.declared.fields.TablePlace.{TablePlace}
 use Rattle.method_reader.specs.declared.fields.ReadFields.{ReadFields}
 use Rattle.method_reader.specs.declared.fields.ReadFields.the-variants as fields
-
--- a word is not changed by the cut to eight octets
-pub word-kept : (n : ℕ) → Fits w64 n → n ≡ n % 256 ^ 8
-word-kept n f = sym (mod-eq-of-lt (f .fits))
 
 -- What was read fits its kind: a number its octets, flags their places
 

@@ -1,5 +1,4 @@
 -- What the answers of the readers say.
-use mathlib.Core.Option.{Option, none, some}
 use Prim.Native.Nat.{ℕ}
 use Rattle.types.specs.Answer.{Answer, given, refused}
 use Rattle.types.specs.AnswerOf.{refusal}
@@ -11,8 +10,6 @@ use Rattle.method.specs.Properties.{Header}
 use Rattle.method.specs.AnswerOf.{commandOf, headerOf}
 use Rattle.method_reader.specs.declared.ReadCommand.{ReadCommand}
 use Rattle.method_reader.specs.declared.ReadCommand.the-variants as command
-use Rattle.method_reader.specs.declared.KnownCommand.{KnownCommand}
-use Rattle.method_reader.specs.declared.KnownCommand.the-variants.{Known, Unknown}
 use Rattle.method_reader.specs.declared.ReadContentHeader.{ReadContentHeader}
 use Rattle.method_reader.specs.declared.ReadContentHeader.the-variants as header
 use Rattle.method_reader.specs.declared.login.ReadLogin.{ReadLogin}
@@ -30,10 +27,6 @@ answerOfCommand (command.Refused e) = refused (refusal e)
 abbrev pub answerOfHeader : ReadContentHeader → Answer (WithCount (Header Returned))
 answerOfHeader (header.Value x records next) = given (record { value = headerOf x; count = records }) (next .at)
 answerOfHeader (header.Refused e) = refused (refusal e)
-
-abbrev pub commandOfKnown : KnownCommand → Option (Command Returned)
-commandOfKnown (Known x) = some (commandOf x)
-commandOfKnown Unknown = none
 
 -- Within the crate
 

@@ -3,7 +3,7 @@ use mathlib.Core.Path.{_≡_}
 use mathlib.Core.Bool.{Bool, cond}
 use mathlib.Core.Option.{Option, none, some}
 use mathlib.Core.List.{List, [], _∷_}
-use Prim.Native.Nat.{ℕ, _+_, _^_, _%_}
+use Prim.Native.Nat.{ℕ, _+_}
 use lib.Dec.{eqb}
 use Rattle.bits.specs.Flags.{packBits}
 use Rattle.types.specs.Answer.{Answer, given, refused, andThen}
@@ -12,10 +12,10 @@ use Rattle.tables.specs.Letters.{Letters}
 use Rattle.tables.specs.Forest.{size}
 use Rattle.tables.specs.Tape.{WithCount, roomOf, fillTape, readTable}
 use Rattle.method.specs.Fields.{Kind, number, shortStr, bits, login, table, Field, fixed, arg, Located, Returned, Args}
-use Rattle.method.specs.Commands.{known, fieldsOf, Command, call}
+use Rattle.method.specs.Commands.{Command}
 use Rattle.method.specs.Properties.{Header}
 use Rattle.method.specs.Reading.{argAt, fixedAt, fieldsAt, argumentsAt, propertiesAt, sizedAt, returnedArg, returnedArgs, used, commandWithTape, headerWithTape}
-use Rattle.method.specs.Words.{argWords, argsWords, argsFrom}
+use Rattle.method.specs.Words.{argWords, argsWords}
 use Rattle.method_reader.specs.declared.fields.TablePlace.{TablePlace}
 use Rattle.method_reader.specs.declared.fields.ReadField.{ReadField}
 use Rattle.method_reader.specs.declared.fields.ReadFields.{ReadFields}
@@ -100,21 +100,3 @@ readSized letters c s at used tape =
 -- no table yet
 abbrev pub noTable : TablePlace
 noTable = record { records = 0; start = 0 }
-
--- Numbers cut to their width, as the code turns words into arguments; what was read is not changed by it
-
-abbrev pub cutArg : (k : Kind) → Returned k → Returned k
-cutArg (number k) n = n % 256 ^ k
-cutArg shortStr v = v
-cutArg (bits places) flags = flags
-cutArg login x = x
-cutArg table n = n
-
-unfoldable pub cutArgs : (fs : List Field) → Args Returned fs → Args Returned fs
-cutArgs [] vs = tt
-cutArgs (fixed xs ∷ fs) vs = cutArgs fs vs
-cutArgs (arg k ∷ fs) vs = (cutArg k (vs .0), cutArgs fs (vs .1))
-
--- the command of a pair that is known, made of words
-unfoldable pub commandWith : ℕ → ℕ → List ℕ → Option (Command Returned)
-commandWith c m ws = cond (known c m) (some (call c m (cutArgs (fieldsOf c m) (argsFrom (fieldsOf c m) ws)))) none

@@ -2,157 +2,29 @@
 ghost use mathlib.Core.Path.{_≡_};
 ghost use mathlib.Core.Bool.{true};
 ghost use mathlib.Core.Option.{some};
-ghost use Prim.Native.Nat.{_+_, _≤_};
-ghost use lib.ListN.{length, getD};
+ghost use Prim.Native.Nat.{_≤_};
+ghost use lib.ListN.{length};
 ghost use Rattle.types.specs.Memory.{outcome};
 ghost use Rattle.tables.specs.Letters.{errata};
-ghost use Rattle.method.specs.Commands.{known, fieldsOf, call};
+ghost use Rattle.method.specs.Commands.{known, fieldsOf};
 ghost use Rattle.method.specs.Reading.{readCommand};
-ghost use Rattle.method.specs.Words.{argsFrom};
 ghost use Rattle.method.specs.Layout.{layoutFields};
-ghost use Rattle.method.specs.AnswerOf.{commandOf};
-ghost use Rattle.method_reader.specs.Fields.{cutArgs, commandWith, readArguments};
-ghost use Rattle.method_reader.specs.AnswerOf.{answerOfCommand, commandOfKnown};
-use crate::KnownCommand;
+ghost use Rattle.method_reader.specs.Fields.{readArguments};
+ghost use Rattle.method_reader.specs.AnswerOf.{answerOfCommand};
 use crate::ReadCommand;
 use crate::fields::ReadFields;
 use crate::fields::fill_table;
 use crate::fields::read_fields;
-use method::Command;
 use method::layout::Layout;
 use method::layout::layout_of;
+use method_words::commands::command_of;
 use table_reader::room;
 use types::Cursor;
 use types::ReadU16;
-use types::Span;
 use types::WireError;
 
 // Every field is present.
 const ALL: u16 = 0x1FFF;
-
-fn span_at(words: [u64; 8], j: usize) -> Span
-    requires { ⌜ j + 2 ≤ 8 ⌝ }
-    ensures { λ r. ⌜ r ≡ record { start = getD words j 0; len = getD words (j + 1) 0 } ⌝ }
-{
-    Span {
-        start: words[j] as usize,
-        len: words[j + 1] as usize,
-    }
-}
-
-// The command of a pair that is known, from its words.
-fn command_of(class: u16, method: u16, words: [u64; 8]) -> Command
-    requires { ⌜ known class method ≡ true ⌝ }
-    ensures { λ r. ⌜ commandOf r ≡ call class method (cutArgs (fieldsOf class method) (argsFrom (fieldsOf class method) words)) ⌝ }
-{
-    match class as u64 * 100_000 + method as u64 {
-        10_00011 => Command::ConnectionStartOk {
-            user: span_at(words, 0),
-            password: span_at(words, 2),
-        },
-        10_00031 => Command::ConnectionTuneOk {
-            channel_max: (words[0] % 0x1_0000) as u16,
-            frame_max: (words[1] % 0x1_0000_0000) as u32,
-            heartbeat: (words[2] % 0x1_0000) as u16,
-        },
-        10_00040 => Command::ConnectionOpen {
-            vhost: span_at(words, 0),
-        },
-        20_00010 => Command::ChannelOpen,
-        20_00020 => Command::ChannelFlow {
-            active: words[0] % 2 == 1,
-        },
-        20_00021 => Command::ChannelFlowOk {
-            active: words[0] % 2 == 1,
-        },
-        20_00040 => Command::ChannelClose {
-            reply_code: (words[0] % 0x1_0000) as u16,
-            reply_text: span_at(words, 1),
-        },
-        20_00041 => Command::ChannelCloseOk,
-        40_00010 => Command::ExchangeDeclare {
-            name: span_at(words, 0),
-            kind: span_at(words, 2),
-            durable: words[4] % 2 == 1,
-        },
-        40_00020 => Command::ExchangeDelete {
-            name: span_at(words, 0),
-            if_unused: words[2] % 2 == 1,
-        },
-        50_00010 => Command::QueueDeclare {
-            queue: span_at(words, 0),
-            durable: words[2] % 2 == 1,
-        },
-        50_00020 => Command::QueueBind {
-            queue: span_at(words, 0),
-            exchange: span_at(words, 2),
-            routing_key: span_at(words, 4),
-        },
-        50_00050 => Command::QueueUnbind {
-            queue: span_at(words, 0),
-            exchange: span_at(words, 2),
-            routing_key: span_at(words, 4),
-        },
-        50_00030 => Command::QueuePurge {
-            queue: span_at(words, 0),
-        },
-        50_00040 => Command::QueueDelete {
-            queue: span_at(words, 0),
-        },
-        60_00010 => Command::BasicQos {
-            prefetch_size: (words[0] % 0x1_0000_0000) as u32,
-            prefetch_count: (words[1] % 0x1_0000) as u16,
-            global: words[2] % 2 == 1,
-        },
-        60_00020 => Command::BasicConsume {
-            queue: span_at(words, 0),
-            consumer_tag: span_at(words, 2),
-            no_ack: words[4] % 2 == 1,
-        },
-        60_00030 => Command::BasicCancel {
-            consumer_tag: span_at(words, 0),
-            no_wait: words[2] % 2 == 1,
-        },
-        60_00040 => Command::BasicPublish {
-            exchange: span_at(words, 0),
-            routing_key: span_at(words, 2),
-        },
-        60_00070 => Command::BasicGet {
-            queue: span_at(words, 0),
-            no_ack: words[2] % 2 == 1,
-        },
-        60_00080 => Command::BasicAck {
-            delivery_tag: words[0],
-            multiple: words[1] % 2 == 1,
-        },
-        60_00090 => Command::BasicReject {
-            delivery_tag: words[0],
-            requeue: words[1] % 2 == 1,
-        },
-        60_00120 => Command::BasicNack {
-            delivery_tag: words[0],
-            multiple: words[1] % 2 == 1,
-            requeue: words[1] / 2 % 2 == 1,
-        },
-        85_00010 => Command::ConfirmSelect {
-            no_wait: words[0] % 2 == 1,
-        },
-        90_00010 => Command::TxSelect,
-        // No other pair is known.
-        _ => Command::TxSelect,
-    }
-}
-
-// The command of a class and method from the words of its arguments, in wire order (specs/Words.antt of method). Numbers are cut to
-// their width.
-pub fn known_command(class: u16, method: u16, arguments: [u64; 8]) -> KnownCommand
-    ensures { λ r. ⌜ commandOfKnown r ≡ commandWith class method arguments ⌝ }
-{
-    if !layout_of(class, method).known {
-        return KnownCommand::Unknown;
-    }
-    KnownCommand::Known(command_of(class, method, arguments))
-}
 
 // What follows a class and method that are known, up to the end of the octets.
 fn read_arguments(

@@ -15,12 +15,6 @@ pub enum ReadCommand {
     Refused(WireError),
 }
 
-// Unknown where no command has the class and method.
-pub enum KnownCommand {
-    Known(Command),
-    Unknown,
-}
-
 pub enum ReadContentHeader {
     Value(ContentHeader, usize, Cursor),
     Refused(WireError),

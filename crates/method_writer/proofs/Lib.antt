@@ -1,5 +1,4 @@
 -- Laws of the writers of commands and content headers.
 pub mod SizeLaws
 pub mod EmitLaws
-pub mod PropertyLaws
 pub mod WriteLaws

@@ -2,4 +2,3 @@
 pub mod Sizes
 pub mod Emitting
 pub mod AnswerOf
-pub mod Properties

@@ -6,9 +6,9 @@ use Rattle.types.specs.Answer.{refused, unknownMethod}
 use Rattle.tables.specs.Letters.{errata}
 use Rattle.method.specs.Fields.{Returned}
 use Rattle.method.specs.Commands.{Command}
-use Rattle.method_reader.specs.Fields.{commandWith}
-use Rattle.method_reader.specs.AnswerOf.{commandOfKnown}
-use Rattle.method_reader.specs.declared.KnownCommand.{KnownCommand}
+use Rattle.method_words.specs.Words.{commandWith}
+use Rattle.method_words.specs.AnswerOf.{commandOfKnown}
+use Rattle.method_words.specs.declared.KnownCommand.{KnownCommand}
 use Rattle.amqp_ffi.specs.Reply.{nothing}
 use Rattle.amqp_ffi.specs.Methods.{writeIfKnown, writeKnown}
 use Rattle.amqp_ffi.proofs.ReplyLaws.{with-memory}

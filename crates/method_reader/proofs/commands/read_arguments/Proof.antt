@@ -1,5 +1,5 @@
 -- `method_reader::commands::read_arguments` meets its contract. Assumes nothing.
-use mathlib.Core.Path.{_≡_, sym}
+use mathlib.Core.Path.{_≡_, sym, _∙_}
 use native.Mathlib.Omega.{arith}
 use borrow.Author.Needs.{needs}
 use lib.Dec.{lit<}
@@ -7,6 +7,7 @@ use lib.ListN.{length}
 use lib.Seq.{length-take-le}
 use Rattle.tables.specs.Letters.{errata}
 use Rattle.method.proofs.LayoutLaws.{command-widths, all-present}
+use Rattle.method_words.proofs.CommandLaws.{command-known}
 use Rattle.method_reader.proofs.CommandLaws.{arguments-refused, arguments-spare, arguments-read}
 use Rattle.method_reader.proofs.commands.read_arguments.Statement.{statement}
 use Rattle.method_reader.proofs.commands.read_arguments.Tie as tie
@@ -54,7 +55,7 @@ same-length-3 : tie.Need-same-length-3
 same-length-3 c = search needs
 
 returns-3 : tie.Need-returns-3
-returns-3 c = let a = c .before .before .before .before .before .before .before .before .before .before .before .before .before .before .before .before .before .before .args in arguments-read errata (a .class) (a .method) (a .layout) (a .s .now) (a .at) (a .used) _ (a .tape .now) _ _ _ (c .before .before .before .before .before .before .before .before .before .before .before .before .before .before .before .before .before .before .pre .2) (c .before .before .before .before .before .before .before .before .before .before .before .before .room .ensures) (c .before .before .before .before .before .before .before .before .before .before .read-fields .ensures) _ _ _ _ (c .before .before .before .before .before .before .before .table .given .1) (omega (arith, c .before .before .before .before .before .if1 .left)) (λ i. c .before .before .before .before .before .before .before .before .before .before .before .before .before .before .before .before .before .shared-slice-known .given i .fits) (c .before .before .before .fill-table .ensures) (c .command-of .ensures)
+returns-3 c = let a = c .before .before .before .before .before .before .before .before .before .before .before .before .before .before .before .before .before .before .args in arguments-read errata (a .class) (a .method) (a .layout) (a .s .now) (a .at) (a .used) _ (a .tape .now) _ _ _ (c .before .before .before .before .before .before .before .before .before .before .before .before .before .before .before .before .before .before .pre .2) (c .before .before .before .before .before .before .before .before .before .before .before .before .room .ensures) (c .before .before .before .before .before .before .before .before .before .before .read-fields .ensures) _ _ _ _ (c .before .before .before .before .before .before .before .table .given .1) (omega (arith, c .before .before .before .before .before .if1 .left)) (λ i. c .before .before .before .before .before .before .before .before .before .before .before .before .before .before .before .before .before .shared-slice-known .given i .fits) (c .before .before .before .fill-table .ensures) (c .command-of .ensures ∙ command-known (a .class) (a .method) _ (c .before .before .before .before .before .before .before .before .before .before .before .before .before .before .before .before .before .before .pre .1))
 
 pub read-arguments-spec : {M : Type 1} → statement M
 read-arguments-spec =

@@ -4,7 +4,8 @@ use borrow.Author.Needs.{needs}
 use Rattle.types.specs.AnswerOf.{answerOfU16}
 use Rattle.types.proofs.RoundTrip.{number-move}
 use Rattle.tables.specs.Letters.{errata}
-use Rattle.method_reader.proofs.CommandLaws.{layout-known, layout-unknown, class-refused, method-refused, pair-unknown, pair-known}
+use Rattle.method_words.proofs.CommandLaws.{layout-known, layout-unknown}
+use Rattle.method_reader.proofs.CommandLaws.{class-refused, method-refused, pair-unknown, pair-known}
 use Rattle.method_reader.proofs.commands.read_command.Statement.{statement}
 use Rattle.method_reader.proofs.commands.read_command.Tie as tie
 

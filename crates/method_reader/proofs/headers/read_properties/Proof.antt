@@ -1,7 +1,11 @@
 -- `method_reader::headers::read_properties` meets its contract. Assumes nothing.
+use mathlib.Core.Path.{ap, _∙_}
+use Prim.Native.Nat.{ℕ}
+use native.Mathlib.Nat.{mod-eq-of-lt}
 use native.Mathlib.Omega.{arith}
 use Rattle.tables.specs.Letters.{errata}
 use Rattle.method.proofs.LayoutLaws.{property-widths}
+use Rattle.method_words.specs.Words.{headerWith}
 use Rattle.method_reader.proofs.PropertyLaws.{properties-refused, properties-read}
 use lib.ListN.{replicate}
 use borrow.Author.Needs.{needs}
@@ -52,10 +56,11 @@ same-length-2 c = search needs
 
 returns-2 : tie.Need-returns-2
 returns-2 c =
-    let a = c .before .before .before .before .before .before .before .before .before .before .before .before .before .before .before .before .before .args in
+    let s = c .before .before .before .before .before .before .before .before .before .before .before .before .before .before .before .before .before in
+    let a = s .args in
     let r = c .before .before .before .before .before .before .before .before .before .read-fields in
     let l = c .before .before .before .before .before .before .before .before .before .before .before .before .before .before .property-fields in
-    properties-read errata (a .s .now) (a .used) (a .tape .now) (a .class) (a .body-size) (a .present) (a .at) _ (l .result) (replicate 22 0) (r .last .1 .1 .1 .1 .1 .0) (r .result) _ _ _ _ (λ i. c .before .before .before .before .before .before .before .before .before .before .before .before .before .before .before .before .shared-slice-known .given i .fits) (l .ensures) (c .before .before .before .before .before .before .before .before .before .before .before .room .ensures) (r .ensures) (c .before .before .before .before .before .before .table .given .1) (c .header-of .ensures) (c .before .before .before .fill-table .ensures)
+    properties-read errata (a .s .now) (a .used) (a .tape .now) (a .class) (a .body-size) (a .present) (a .at) _ (l .result) (replicate 22 0) (r .last .1 .1 .1 .1 .1 .0) (r .result) _ _ _ _ (λ i. c .before .before .before .before .before .before .before .before .before .before .before .before .before .before .before .before .shared-slice-known .given i .fits) (l .ensures) (c .before .before .before .before .before .before .before .before .before .before .before .room .ensures) (r .ensures) (c .before .before .before .before .before .before .table .given .1) (c .header-of .ensures ∙ ap (λ (n : ℕ). headerWith (a .class) (a .body-size) n (r .last .1 .1 .1 .1 .1 .0)) (mod-eq-of-lt (s .pre .1))) (c .before .before .before .fill-table .ensures)
 
 pub read-properties-spec : {M : Type 1} → statement M
 read-properties-spec =

@@ -19,7 +19,8 @@ use Rattle.method.specs.AnswerOf.{commandOf}
 use Rattle.method.specs.declared.layout.Layout.{Layout}
 use Rattle.method_writer.specs.Sizes.{octets, fieldsSize}
 use Rattle.method_writer.specs.AnswerOf.{answerOfSize}
-use Rattle.method_writer.specs.declared.commands.Call.{Call}
+use Rattle.method_words.specs.declared.Call.{Call}
+use Rattle.method_words.proofs.CallLaws.{call-back}
 use Rattle.method_writer.proofs.WriteLaws.{sizeBehind, size-refused, size-long, size-octets, fields-small, command-room, command-size}
 use Rattle.method_writer.proofs.commands.judge_command.Statement.{statement}
 use Rattle.method_writer.proofs.commands.judge_command.Tie as tie
@@ -51,7 +52,7 @@ whole : (c : tie.After-size-fields)
 whole c =
     let a = start c .args in
     command-size (a .pool .now) (a .tape .now) (commandOf (a .command)) (call c .class) (call c .method) (call c .words) (layout c)
-    (c .before .before .before .before .before .before .call-of .ensures) (c .before .before .before .before .layout-of .ensures .0)
+    (call-back (a .command) (call c) (c .before .before .before .before .before .before .call-of .ensures)) (c .before .before .before .before .layout-of .ensures .0)
 
 -- arrays of eight
 
@@ -89,7 +90,7 @@ asked c =
     let l = c .before .before .before in
     let r = c .before .before .before .before .before in
     let a = c .before .before .before .before .before .before .before .before .args in
-    let room = command-room (a .pool .now) (a .tape .now) (commandOf (a .command)) (r .call-of .result .class) (r .call-of .result .method) (r .call-of .result .words) (l .layout-of .result) (r .call-of .ensures) (l .layout-of .ensures .0) in
+    let room = command-room (a .pool .now) (a .tape .now) (commandOf (a .command)) (r .call-of .result .class) (r .call-of .result .method) (r .call-of .result .words) (l .layout-of .result) (call-back (a .command) (r .call-of .result) (r .call-of .ensures)) (l .layout-of .ensures .0) in
     (omega arith, omega (arith, slice-aggregate-size-fields (c .before), l .layout-of .ensures .1), omega (arith, room, eight-words r))
 
 size-fields-requires : tie.Need-size-fields-requires

@@ -12,29 +12,37 @@ use Rattle.method.specs.Fields.{Field}
 use Rattle.method.specs.Properties.{select, flagsOf}
 use Rattle.method.specs.Writing.{headerOctets}
 use Rattle.method.specs.Pooled.{headerRefusalPooled, pooledHeaderMeaning}
-use Rattle.method.specs.Words.{widths}
+use Rattle.method.specs.Words.{widths, headerFrom}
 use Rattle.method.specs.Layout.{fieldOf}
 use Rattle.method.specs.AnswerOf.{headerOf}
-use Rattle.method.specs.declared.ContentHeader.{ContentHeader}
+use Rattle.method_words.specs.declared.HeaderWords.{HeaderWords}
+use Rattle.method_words.proofs.PutLaws.{header-back}
 use Rattle.method_writer.specs.Sizes.{octets, fieldsSize}
 use Rattle.method_writer.specs.AnswerOf.{answerOfSize}
 use Rattle.method_writer.proofs.WriteLaws.{sizeBehind, size-refused, size-long, size-octets, fields-small, header-room, header-size}
 use Rattle.method_writer.proofs.headers.judge_content_header.Statement.{statement}
 use Rattle.method_writer.proofs.headers.judge_content_header.Tie as tie
 
+-- The words of the header give it back
+
+back : (c : tie.After-header-words)
+    → let r = c .header-words .result in
+    (r .present < 8192) × (headerOf (c .before .before .before .args .header) ≡ headerFrom (r .class) (r .«body_size») (r .present) (r .words))
+back c = header-back (c .before .before .before .args .header) (c .header-words .result) (c .header-words .ensures)
+
 -- What is known when the fields are judged
 
 abbrev start : tie.After-size-fields → tie.Start
-start c = c .before .before .before .before .before .before .before .before .before
+start c = c .before .before .before .before .before .before .before .before
 
-abbrev given : tie.After-size-fields → ContentHeader
-given c = start c .args .header
+abbrev head-words : tie.After-size-fields → HeaderWords
+head-words c = c .before .before .before .before .before .header-words .result
 
 abbrev present : tie.After-size-fields → ℕ
-present c = c .before .before .before .before .before .put-properties .result
+present c = head-words c .present
 
 abbrev words : tie.After-size-fields → List ℕ
-words c = c .before .before .before .before .before .put-properties .last .0
+words c = head-words c .words
 
 abbrev layout : tie.After-size-fields → List ℕ
 layout c = c .before .before .before .property-fields .result
@@ -43,17 +51,17 @@ abbrev fields : tie.After-size-fields → List Field
 fields c = select (flagsOf 13 (present c)) (map fieldOf (layout c))
 
 abbrev head : tie.After-size-fields → List ℕ
-head c = ((number.octets 2 (given c .class) ++ number.octets 2 0) ++ number.octets 8 (given c .«body_size»)) ++ number.octets 2 (present c * 8)
+head c = ((number.octets 2 (head-words c .class) ++ number.octets 2 0) ++ number.octets 8 (head-words c .«body_size»)) ++ number.octets 2 (present c * 8)
 
 whole : (c : tie.After-size-fields)
     → let a = start c .args in
     sizeBehind errata (a .pool .now) (a .tape .now) (fields c) (words c) (head c)
-    ≡ payload.sized (headerRefusalPooled errata (a .pool .now) (a .tape .now) (headerOf (given c))) (length (headerOctets errata (pooledHeaderMeaning errata (a .pool .now) (a .tape .now) (headerOf (given c)))))
+    ≡ payload.sized (headerRefusalPooled errata (a .pool .now) (a .tape .now) (headerOf (start c .args .header))) (length (headerOctets errata (pooledHeaderMeaning errata (a .pool .now) (a .tape .now) (headerOf (start c .args .header)))))
 whole c =
     let a = start c .args in
-    let p = c .before .before .before .before .before .put-properties .ensures in
-    header-size (a .pool .now) (a .tape .now) (headerOf (given c)) (given c .class) (given c .«body_size») (present c) (words c) (layout c)
-    (p .1 (given c .class) (given c .«body_size»)) (p .0) (c .before .before .before .property-fields .ensures)
+    let p = back (c .before .before .before .before .before) in
+    header-size (a .pool .now) (a .tape .now) (headerOf (start c .args .header)) (head-words c .class) (head-words c .«body_size») (present c) (words c) (layout c)
+    (p .1) (p .0) (c .before .before .before .property-fields .ensures)
 
 sized : (c : tie.After-known-told2)
     → let s = c .before .before .before in
@@ -64,11 +72,8 @@ sized c = sym (ap answerOfSize (c .before .n .given .1)) ∙ c .before .before .
 thirteen : (c : tie.After-property-fields) → length (c .property-fields .result) ≡ 13
 thirteen c = search needs
 
-slice-aggregate-put-properties : tie.Need-slice-aggregate-put-properties
-slice-aggregate-put-properties c = search needs
-
-put-properties-requires : tie.Need-put-properties-requires
-put-properties-requires c κs = search needs
+header-words-requires : tie.Need-header-words-requires
+header-words-requires c κs = search needs
 
 property-fields-requires : tie.Need-property-fields-requires
 property-fields-requires c κs = search needs
@@ -79,16 +84,17 @@ slice-aggregate-size-fields c = search needs
 slice-aggregate-size-fields-2 : tie.Need-slice-aggregate-size-fields-2
 slice-aggregate-size-fields-2 c = search needs
 
-asked : (c : tie.After-words3)
-    → let r = c .before .before .before .before .put-properties .result in
+asked : (c : tie.After-words2)
+    → let r = c .before .before .before .before .header-words .result in
     let l = c .before .before .property-fields .result in
-    (r < 8192) × (length l ≤ 13) × (widths (select (flagsOf 13 r) (map fieldOf l)) ≤ length (c .before .before .before .before .put-properties .last .0))
+    (r .present < 8192) × (length l ≤ 13) × (widths (select (flagsOf 13 (r .present)) (map fieldOf l)) ≤ length (r .words))
 asked c =
     let p = c .before .before .before .before in
-    let h = c .before .before .before .before .before .before .before .before .args .header in
+    let r = p .header-words .result in
+    let b = back p in
     let l = c .before .before in
-    let w = header-room [] [] (headerOf h) (h .class) (h .«body_size») (p .put-properties .result) (p .put-properties .last .0) (l .property-fields .result) (p .put-properties .ensures .1 (h .class) (h .«body_size»)) (p .put-properties .ensures .0) (l .property-fields .ensures) in
-    (p .put-properties .ensures .0, omega (arith, thirteen l), omega (arith, w, slice-aggregate-size-fields-2 c))
+    let w = header-room [] [] (headerOf (p .before .before .before .args .header)) (r .class) (r .«body_size») (r .present) (r .words) (l .property-fields .result) (b .1) (b .0) (l .property-fields .ensures) in
+    (b .0, omega (arith, thirteen l), omega (arith, w, slice-aggregate-size-fields-2 c))
 
 size-fields-requires : tie.Need-size-fields-requires
 size-fields-requires c κs = asked c
@@ -102,8 +108,8 @@ enum-told c = search needs
 enum-known-n : tie.Need-enum-known-n
 enum-known-n c = search needs
 
-add-t19 : tie.Need-add-t19
-add-t19 c =
+add-t18 : tie.Need-add-t18
+add-t18 c =
     let s = c .before .before .before in
     let a = start s .args in
     omega (
@@ -134,8 +140,7 @@ pub judge-content-header-spec : {M : Type 1} → statement M
 judge-content-header-spec =
     tie.close
     (tie.spec
-    slice-aggregate-put-properties
-    put-properties-requires
+    header-words-requires
     property-fields-requires
     slice-aggregate-size-fields
     slice-aggregate-size-fields-2
@@ -143,7 +148,7 @@ judge-content-header-spec =
     enum-known-e
     enum-told
     enum-known-n
-    add-t19
+    add-t18
     returns
     returns-2
     returns-3)

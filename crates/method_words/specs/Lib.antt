@@ -1,0 +1,4 @@
+-- The specification of commands and content headers as words.
+pub mod Words
+pub mod Properties
+pub mod AnswerOf

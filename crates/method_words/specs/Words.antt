@@ -1,0 +1,52 @@
+-- A command and a content header as words, in wire order, and back. How an argument is words is said by specs/Words.antt of method.
+use mathlib.Core.Bool.{cond}
+use mathlib.Core.Option.{Option, none, some}
+use mathlib.Core.List.{List, [], _∷_, _++_}
+use Prim.Native.Nat.{ℕ, _^_, _%_}
+use lib.ListN.{length, drop}
+use Rattle.method.specs.Fields.{Kind, number, shortStr, bits, login, table, Field, fixed, arg, Returned, Args}
+use Rattle.method.specs.Commands.{known, fieldsOf, Command, call}
+use Rattle.method.specs.Properties.{properties, select, flagsNumber, flagsOf, Header, header}
+use Rattle.method.specs.Words.{argsWords, argsFrom}
+use Rattle.method.specs.Layout.{zeros}
+use Rattle.method.specs.AnswerOf.{commandOf}
+use Rattle.method.specs.declared.Command.the-variants.{TxSelect}
+use Rattle.method_words.specs.declared.Call.{Call}
+use Rattle.method_words.specs.declared.HeaderWords.{HeaderWords}
+
+-- k words, 0 behind those that there are
+abbrev pub padded : ℕ → List ℕ → List ℕ
+padded k ws = ws ++ drop (length ws) (zeros k)
+
+abbrev pub callOf : Command Returned → Call
+callOf (call c m vs) = record { class = c; method = m; words = padded 8 (argsWords (fieldsOf c m) vs) }
+
+abbrev pub headerWords : Header Returned → HeaderWords
+headerWords (header c n present vs) =
+    record { class = c; «body_size» = n; present = flagsNumber present; words = padded 22 (argsWords (select present properties) vs) }
+
+-- Back: numbers are cut to their width, as the code turns words into arguments; what was read is not changed by it
+
+abbrev pub cutArg : (k : Kind) → Returned k → Returned k
+cutArg (number k) n = n % 256 ^ k
+cutArg shortStr v = v
+cutArg (bits places) flags = flags
+cutArg login x = x
+cutArg table n = n
+
+unfoldable pub cutArgs : (fs : List Field) → Args Returned fs → Args Returned fs
+cutArgs [] vs = tt
+cutArgs (fixed xs ∷ fs) vs = cutArgs fs vs
+cutArgs (arg k ∷ fs) vs = (cutArg k (vs .0), cutArgs fs (vs .1))
+
+-- the command of a pair that is known
+unfoldable pub commandWith : ℕ → ℕ → List ℕ → Option (Command Returned)
+commandWith c m ws = cond (known c m) (some (call c m (cutArgs (fieldsOf c m) (argsFrom (fieldsOf c m) ws)))) none
+
+abbrev pub orTxSelect : Option (Command Returned) → Command Returned
+orTxSelect none = commandOf TxSelect
+orTxSelect (some x) = x
+
+-- flags has a bit for each of the thirteen properties, the first one highest
+abbrev pub headerWith : ℕ → ℕ → ℕ → List ℕ → Header Returned
+headerWith c n flags ws = header c n (flagsOf 13 flags) (cutArgs (select (flagsOf 13 flags) properties) (argsFrom (select (flagsOf 13 flags) properties) ws))
