@@ -1,0 +1,81 @@
+// The lines that are no frame's: the protocol header, what ends the frames, and the last one.
+ghost use Prim.Native.Nat.{_≤_};
+ghost use lib.ListN.{length};
+use crate::refusal;
+use types::WireError;
+
+pub fn protocol_header(out: &mut [u8], at: usize) -> usize
+    ensures { λ r. ⌜ r ≤ length (now (out .entry)) ⌝ }
+{
+    print::text(out, at, b"0 protocol header AMQP 0-9-1\n")
+}
+
+// What stands at `base` is no frame.
+pub fn refused(out: &mut [u8], at: usize, base: u64, e: WireError) -> usize
+    ensures { λ r. ⌜ r ≤ length (now (out .entry)) ⌝ }
+{
+    let place = print::decimal(out, at, base);
+    let next = print::put(out, place, b' ');
+    let end = refusal::refused(out, next, e, base);
+    print::put(out, end, b'\n')
+}
+
+// The frame at `base` is larger than the buffer.
+pub fn too_large(out: &mut [u8], at: usize, base: u64, buffer: usize) -> usize
+    ensures { λ r. ⌜ r ≤ length (now (out .entry)) ⌝ }
+{
+    let place = print::decimal(out, at, base);
+    let next = print::text(out, place, b" a frame is larger than the buffer of ");
+    let end = print::decimal(out, next, buffer as u64);
+    print::text(out, end, b" octets\n")
+}
+
+fn left(out: &mut [u8], at: usize, base: u64, held: usize) -> usize
+    ensures { λ r. ⌜ r ≤ length (now (out .entry)) ⌝ }
+{
+    let word = print::text(out, at, b", Truncated at ");
+    let place = print::decimal(out, word, base);
+    let next = print::text(out, place, b": ");
+    let count = print::decimal(out, next, held as u64);
+    print::text(out, count, b" octets of a frame\n")
+}
+
+fn stopped_at(out: &mut [u8], at: usize, base: u64) -> usize
+    ensures { λ r. ⌜ r ≤ length (now (out .entry)) ⌝ }
+{
+    let word = print::text(out, at, b", stopped at ");
+    let place = print::decimal(out, word, base);
+    print::put(out, place, b'\n')
+}
+
+fn counts(out: &mut [u8], at: usize, frames: u64, octets: u64) -> usize
+    ensures { λ r. ⌜ r ≤ length (now (out .entry)) ⌝ }
+{
+    let label = print::text(out, at, b"end: ");
+    let count = print::decimal(out, label, frames);
+    let next = print::text(out, count, b" frames, ");
+    let end = print::decimal(out, next, octets);
+    print::text(out, end, b" octets")
+}
+
+// The last line: the frames and their octets, and what is left at `base`.
+pub fn summary(
+    out: &mut [u8],
+    at: usize,
+    frames: u64,
+    octets: u64,
+    base: u64,
+    held: usize,
+    stopped: bool,
+) -> usize
+    ensures { λ r. ⌜ r ≤ length (now (out .entry)) ⌝ }
+{
+    let end = counts(out, at, frames, octets);
+    if stopped {
+        return stopped_at(out, end, base);
+    }
+    if held == 0 {
+        return print::put(out, end, b'\n');
+    }
+    left(out, end, base, held)
+}
