@@ -4,4 +4,5 @@ mod reading;
 mod writing;
 
 pub use case::answer;
-pub use writing::answer_lent;
+pub use writing::outcome;
+pub use writing::outcome_lent;

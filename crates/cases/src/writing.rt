@@ -4,7 +4,7 @@ ghost use lib.ListN.{length};
 use lines::answer;
 use lines::lent;
 use lines::line;
-use lines::written;
+use lines::written::Outcome;
 use writers::Written;
 
 fn write(op: u8, octets: &[u8], marks: &[usize], lent: &mut [u8]) -> Written {
@@ -16,47 +16,34 @@ fn write(op: u8, octets: &[u8], marks: &[usize], lent: &mut [u8]) -> Written {
 }
 
 // 36 and 37, the writer being lent `space` octets.
-pub fn answer_lent(
+pub fn outcome_lent(
     op: u8,
     octets: &[u8],
     marks: &[usize],
     space: usize,
     lent: &mut [u8],
-    out: &mut [u8],
-    at: usize,
-) -> usize
-    ensures { λ r. ⌜ r ≤ length (now (out .entry)) ⌝ }
-{
+) -> Outcome {
     if line::fields(marks) != 2 {
-        return print::put(out, at, b'?');
+        return Outcome::NoCase;
     }
     if lent.len() < space {
-        return print::put(out, at, b'?');
+        return Outcome::NoCase;
     }
     lent::fill(&mut lent[0..space]);
     let w = write(op, octets, marks, &mut lent[0..space]);
-    written::answer(w, &lent[0..space], out, at)
+    Outcome::Answered(w, space)
 }
 
 // 36 and 37. A writer with octets to spare, 16 behind the longest length field, must not touch them.
-pub(crate) fn answer(
-    op: u8,
-    octets: &[u8],
-    marks: &[usize],
-    lent: &mut [u8],
-    out: &mut [u8],
-    at: usize,
-) -> usize
-    ensures { λ r. ⌜ r ≤ length (now (out .entry)) ⌝ }
-{
+pub fn outcome(op: u8, octets: &[u8], marks: &[usize], lent: &mut [u8]) -> Outcome {
     let len = line::field(octets, marks, 1).len();
     if lent.len() < 20 {
-        return print::put(out, at, b'?');
+        return Outcome::NoCase;
     }
     if lent.len() - 20 < len {
-        return print::put(out, at, b'?');
+        return Outcome::NoCase;
     }
-    answer_lent(op, octets, marks, len + 20, lent, out, at)
+    outcome_lent(op, octets, marks, len + 20, lent)
 }
 
 // Every octet is 00 or 01.

@@ -1,6 +1,7 @@
-// What the libraries of worked examples share: the sheet that counts and shows them, and comparisons. An example is a line: its
-// name, what is tried, then `ok`, or `WRONG` where the answer differs from the document's.
+// What the libraries of worked examples share: the sheet that counts and shows them, their form, and comparisons. Each is shown as a
+// line: its label, then `ok`, or `WRONG` where the answer differs from the document's.
 pub mod same;
+pub mod script;
 pub mod written;
 
 use libc::STDOUT_FILENO;
@@ -23,11 +24,9 @@ impl Sheet {
         }
     }
 
-    // One example more.
-    pub fn line(self, name: &[u8], tried: &[u8], right: bool) -> Sheet {
-        io::write_all(STDOUT_FILENO, name);
-        io::write_all(STDOUT_FILENO, b" ");
-        io::write_all(STDOUT_FILENO, tried);
+    // One example more, by its label.
+    pub fn line(self, label: &[u8], right: bool) -> Sheet {
+        io::write_all(STDOUT_FILENO, label);
         if right {
             io::write_all(STDOUT_FILENO, b" ok\n");
             return Sheet {

@@ -6,7 +6,6 @@ ghost use lib.ListN.{length, getD};
 use lines::lent;
 use tables::tape::RECORD_WORDS;
 use types::Span;
-use types::WireError;
 
 pub fn octets(a: &[u8], b: &[u8]) -> bool
     ensures { λ r. ⌜ (r ≡ true → now (a .entry) ≡ now (b .entry)) ⌝ }
@@ -32,21 +31,6 @@ pub fn words(a: &[u64], b: &[u64]) -> bool
 
 pub fn span(v: Span, start: usize, len: usize) -> bool {
     v.start == start && v.len == len
-}
-
-// A refusal by its number and its values.
-pub fn refusal(e: WireError, number: u8, values: &[u64]) -> bool {
-    let r = e.numbered();
-    let count = values.len();
-    if r.number != number {
-        return false;
-    }
-    match count {
-        0 => r.count == 0,
-        1 => r.count == 1 && r.first == values[0],
-        2 => r.count == 2 && r.first == values[0] && r.second == values[1],
-        _ => false,
-    }
 }
 
 // Whether lent words begin with these, and those behind them are as `fill_words` left them.

@@ -1,5 +1,6 @@
 // What a writer has done with lent octets that `fill` had filled.
 use crate::same;
+use crate::script;
 use lines::lent;
 use writers::Written;
 
@@ -16,10 +17,15 @@ pub fn wrote(w: Written, out: &[u8], expected: &[u8]) -> bool {
     }
 }
 
-// Whether it refuses so, and has written nothing.
-pub fn refused(w: Written, out: &[u8], number: u8, values: &[u64]) -> bool {
+// Whether it is as the line of an example says.
+pub fn as_told(line: &[u8], w: Written, out: &[u8]) -> bool {
     match w {
-        Written::Refused(e) => same::refusal(e, number, values) && lent::kept(out, 0),
-        Written::Next(_) => false,
+        Written::Refused(e) => script::is_refusal(line, e) && lent::kept(out, 0),
+        Written::Next(n) => {
+            if out.len() < n {
+                return false;
+            }
+            script::are_octets(line, &out[0..n]) && lent::kept(out, n)
+        }
     }
 }

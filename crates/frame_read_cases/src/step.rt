@@ -5,15 +5,12 @@ use frame::Payload;
 use frame_reader::ReadFrame;
 use frame_reader::step::read_frame;
 use lines::answer;
-use lines::lent;
-use lines::line;
 use method_read_cases::commands::and_command;
 use method_read_cases::headers::and_header;
 use method_read_cases::headers::header_records;
 use table_read_cases::USED;
 use table_read_cases::kept;
-use table_read_cases::room_for;
-use table_read_cases::words_for;
+use table_read_cases::refused;
 use types::Cursor;
 
 // How many records it has: those of a header's table.
@@ -76,54 +73,14 @@ fn judge(r: ReadFrame, s: &[u8], tape: &[u64], by_words: bool, out: &mut [u8], a
             }
             show(channel, payload, next.at, s, tape, by_words, out, at)
         }
-        ReadFrame::Refused(e) => {
-            if !kept(tape, 0) {
-                return print::text(out, at, b"# changed");
-            }
-            answer::refused(out, at, e)
-        }
+        ReadFrame::Refused(e) => refused(e, tape, out, at),
     }
 }
 
-// The reader is lent `room` free records.
-fn answer_lent(
-    octets: &[u8],
-    marks: &[usize],
-    room: usize,
-    by_words: bool,
-    tape: &mut [u64],
-    out: &mut [u8],
-    at: usize,
-) -> usize
+// What is read of `s` onto a tape that `fill_words` has filled.
+pub fn answer(s: &[u8], tape: &mut [u64], by_words: bool, out: &mut [u8], at: usize) -> usize
     ensures { λ r. ⌜ r ≤ length (now (out .entry)) ⌝ }
 {
-    let words = words_for(room, tape.len());
-    let s = line::field(octets, marks, 1);
-    if line::fields(marks) != 2 || words == 0 {
-        return print::put(out, at, b'?');
-    }
-    lent::fill_words(&mut tape[0..words]);
-    let r = read_frame(s, Cursor { at: 0 }, &mut tape[0..words], USED);
-    judge(r, s, &tape[0..words], by_words, out, at)
-}
-
-// 51: a tape of `room` records, whose words are shown.
-pub fn answer_with_room(
-    octets: &[u8],
-    marks: &[usize],
-    room: usize,
-    tape: &mut [u64],
-    out: &mut [u8],
-    at: usize,
-) -> usize
-    ensures { λ r. ⌜ r ≤ length (now (out .entry)) ⌝ }
-{
-    answer_lent(octets, marks, room, true, tape, out, at)
-}
-
-pub fn answer(octets: &[u8], marks: &[usize], tape: &mut [u64], out: &mut [u8], at: usize) -> usize
-    ensures { λ r. ⌜ r ≤ length (now (out .entry)) ⌝ }
-{
-    let room = room_for(line::field(octets, marks, 1).len());
-    answer_lent(octets, marks, room, false, tape, out, at)
+    let r = read_frame(s, Cursor { at: 0 }, tape, USED);
+    judge(r, s, tape, by_words, out, at)
 }

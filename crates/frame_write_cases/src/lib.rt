@@ -16,7 +16,7 @@ use frame_writer::write::write_frame;
 use lines::answer;
 use lines::lent;
 use lines::line;
-use lines::written;
+use lines::written::Outcome;
 use method_write_cases::arguments::fits;
 use method_write_cases::arguments::number16;
 use method_write_cases::arguments::octet;
@@ -40,40 +40,25 @@ fn encode_lent(
     marks: &[usize],
     space: usize,
     lent: &mut [u8],
-    out: &mut [u8],
-    at: usize,
-) -> usize
-    ensures { λ r. ⌜ r ≤ length (now (out .entry)) ⌝ }
-{
+) -> Outcome {
     if lent.len() < space {
-        return print::put(out, at, b'?');
+        return Outcome::NoCase;
     }
     let channel = number16(octets, marks, 2);
     let payload = line::field(octets, marks, 3);
     lent::fill(&mut lent[0..space]);
     let w = encode(&mut lent[0..space], 0, frame_type, channel, payload);
-    written::answer(w, &lent[0..space], out, at)
+    Outcome::Answered(w, space)
 }
 
 // 32: type, channel, payload.
-fn answer_encode(
-    octets: &[u8],
-    marks: &[usize],
-    space: usize,
-    lent: &mut [u8],
-    out: &mut [u8],
-    at: usize,
-) -> usize
-    ensures { λ r. ⌜ r ≤ length (now (out .entry)) ⌝ }
-{
+fn outcome_of_encode(octets: &[u8], marks: &[usize], space: usize, lent: &mut [u8]) -> Outcome {
     if line::fields(marks) != 4 || !fits(octets, marks, 1, b'o') || !fits(octets, marks, 2, b'H') {
-        return print::put(out, at, b'?');
+        return Outcome::NoCase;
     }
     match FrameType::from_u8(octet(octets, marks, 1)) {
-        KnownType::Known(frame_type) => {
-            encode_lent(frame_type, octets, marks, space, lent, out, at)
-        }
-        KnownType::Unknown => print::put(out, at, b'?'),
+        KnownType::Known(frame_type) => { encode_lent(frame_type, octets, marks, space, lent) }
+        KnownType::Unknown => Outcome::NoCase,
     }
 }
 
@@ -85,86 +70,61 @@ fn write_lent(
     tape: &[u64],
     space: Space,
     lent: &mut [u8],
-    out: &mut [u8],
-    at: usize,
-) -> usize
-    ensures { λ r. ⌜ r ≤ length (now (out .entry)) ⌝ }
-{
+) -> Outcome {
     let n = space_for(space, marks, tape, lent.len());
     if lent.len() < n {
-        return print::put(out, at, b'?');
+        return Outcome::NoCase;
     }
     let channel = number16(octets, marks, 1);
     lent::fill(&mut lent[0..n]);
     let w = write_frame(&mut lent[0..n], 0, channel, payload, octets, tape);
-    written::answer(w, &lent[0..n], out, at)
+    Outcome::Answered(w, n)
 }
 
-fn answer_payload(
+fn outcome_of_payload(
     case: PayloadCase,
     octets: &[u8],
     marks: &[usize],
     space: Space,
     lent: &mut [u8],
     tape: &[u64],
-    out: &mut [u8],
-    at: usize,
-) -> usize
-    ensures { λ r. ⌜ r ≤ length (now (out .entry)) ⌝ }
-{
+) -> Outcome {
     match case {
-        PayloadCase::None => print::put(out, at, b'?'),
+        PayloadCase::None => Outcome::NoCase,
         PayloadCase::Payload(payload, n) => {
             if tape.len() < n {
-                return print::put(out, at, b'?');
+                return Outcome::NoCase;
             }
-            write_lent(payload, octets, marks, &tape[0..n], space, lent, out, at)
+            write_lent(payload, octets, marks, &tape[0..n], space, lent)
         }
     }
 }
 
 // 32; and 43: channel, type, and the fields of the payload.
-pub fn answer(
+pub fn outcome(
     op: u8,
     octets: &[u8],
     marks: &[usize],
     space: Space,
     lent: &mut [u8],
     tape: &mut [u64],
-    out: &mut [u8],
-    at: usize,
-) -> usize
-    ensures { λ r. ⌜ r ≤ length (now (out .entry)) ⌝ }
-{
+) -> Outcome {
     if op == 0x32 {
         let n = space_for(space, marks, &tape[0..0], lent.len());
-        return answer_encode(octets, marks, n, lent, out, at);
+        return outcome_of_encode(octets, marks, n, lent);
     }
     let case = payload_case(octets, marks, tape);
-    answer_payload(case, octets, marks, space, lent, tape, out, at)
+    outcome_of_payload(case, octets, marks, space, lent, tape)
 }
 
 // 52 of 43: channel, the type of content headers, and what 52 of 31 has behind its operation.
-pub fn answer_repeated(
+pub fn outcome_repeated(
     octets: &[u8],
     marks: &[usize],
     space: usize,
     lent: &mut [u8],
     tape: &mut [u64],
-    out: &mut [u8],
-    at: usize,
-) -> usize
-    ensures { λ r. ⌜ r ≤ length (now (out .entry)) ⌝ }
-{
+) -> Outcome {
     let case = repeated_payload_case(octets, marks, tape);
-    answer_payload(
-        case,
-        octets,
-        marks,
-        Space::Octets(space),
-        lent,
-        tape,
-        out,
-        at,
-    )
+    outcome_of_payload(case, octets, marks, Space::Octets(space), lent, tape)
 }

@@ -1,179 +1,138 @@
-// Method payloads: 0-9-1, 4.2.4, class, method and arguments; document 01, "method.rs: commands".
-use crate::tried::Found;
-use crate::tried::read;
-use crate::tried::refuses;
-use crate::tried::writes;
-use examples::Sheet;
+// The reader and the writer of commands, tried on lent memory that shows what was changed. A command is its class, its method and its
+// arguments: a span is its place and its length, a flag 1 or 0. Here are those commands that the examples name.
 use examples::same;
+use examples::script;
+use examples::written;
+use lines::lent;
 use method::Command;
+use method_reader::ReadCommand;
+use method_reader::commands::read_command;
+use method_writer::commands::write_command;
+use types::Cursor;
 use types::Span;
 
-fn is_tune_ok(v: Found) -> bool {
-    match v {
-        Found::None => false,
-        Found::Command(c) => match c {
-            Command::ConnectionTuneOk {
-                channel_max,
-                frame_max,
-                heartbeat,
-            } => channel_max == 2047 && frame_max == 131_072 && heartbeat == 60,
-            _ => false,
-        },
+fn numbers_of(c: Command) -> [u64; 6] {
+    match c {
+        Command::ConnectionStartOk { user, password } => [
+            10,
+            11,
+            user.start as u64,
+            user.len as u64,
+            password.start as u64,
+            password.len as u64,
+        ],
+        Command::ConnectionTuneOk {
+            channel_max,
+            frame_max,
+            heartbeat,
+        } => [
+            10,
+            31,
+            channel_max as u64,
+            frame_max as u64,
+            heartbeat as u64,
+            0,
+        ],
+        Command::ConnectionOpen { vhost } => {
+            [10, 40, vhost.start as u64, vhost.len as u64, 0, 0]
+        }
+        Command::QueueDeclare { queue, durable } => {
+            [
+                50,
+                10,
+                queue.start as u64,
+                queue.len as u64,
+                durable as u64,
+                0,
+            ]
+        }
+        Command::BasicAck {
+            delivery_tag,
+            multiple,
+        } => [60, 80, delivery_tag, multiple as u64, 0, 0],
+        Command::BasicNack {
+            delivery_tag,
+            multiple,
+            requeue,
+        } => [60, 120, delivery_tag, multiple as u64, requeue as u64, 0],
+        Command::TxSelect => [90, 10, 0, 0, 0, 0],
+        _ => [0; 6],
     }
 }
 
-fn is_open(v: Found) -> bool {
-    match v {
-        Found::None => false,
-        Found::Command(c) => match c {
-            Command::ConnectionOpen { vhost } => same::span(vhost, 5, 1),
-            _ => false,
-        },
+fn is_told(line: &[u8], c: Command) -> bool {
+    let told = script::behind(line, b'=');
+    let mut expected = [0u64; 6];
+    script::numbers(told, 0, &mut expected);
+    told.len() != 0 && same::words(&numbers_of(c), &expected)
+}
+
+// Octets: the command. It ends with them and fills no record.
+pub(crate) fn reads(line: &[u8]) -> bool {
+    let mut s = [0u8; 100];
+    let n = script::octets(line, 1, &mut s);
+    let mut tape = [0u64; 15];
+    lent::fill_words(&mut tape);
+    let r = read_command(&s[0..n], Cursor { at: 0 }, &mut tape, 0);
+    let kept = lent::kept_words(&tape, 0);
+    match r {
+        ReadCommand::Refused(e) => kept && script::is_refusal(line, e),
+        ReadCommand::Value(command, records, next) => {
+            kept && records == 0 && next.at == n && is_told(line, command)
+        }
     }
 }
 
-fn is_declare(v: Found) -> bool {
-    match v {
-        Found::None => false,
-        Found::Command(c) => match c {
-            Command::QueueDeclare { queue, durable } => same::span(queue, 7, 1) && durable,
-            _ => false,
-        },
+fn span(start: u64, len: u64) -> Span {
+    Span {
+        start: start as usize,
+        len: len as usize,
     }
 }
 
-fn is_ack(v: Found) -> bool {
-    match v {
-        Found::None => false,
-        Found::Command(c) => match c {
-            Command::BasicAck {
-                delivery_tag,
-                multiple,
-            } => delivery_tag == 5 && multiple,
-            _ => false,
+// Class and method in one number, and the arguments.
+fn command_of(id: u64, a: u64, b: u64, c: u64, d: u64) -> Command {
+    match id {
+        10_011 => Command::ConnectionStartOk {
+            user: span(a, b),
+            password: span(c, d),
         },
+        10_031 => Command::ConnectionTuneOk {
+            channel_max: (a % 0x1_0000) as u16,
+            frame_max: (b % 0x1_0000_0000) as u32,
+            heartbeat: (c % 0x1_0000) as u16,
+        },
+        10_040 => Command::ConnectionOpen { vhost: span(a, b) },
+        50_010 => Command::QueueDeclare {
+            queue: span(a, b),
+            durable: c == 1,
+        },
+        60_080 => Command::BasicAck {
+            delivery_tag: a,
+            multiple: b == 1,
+        },
+        60_120 => Command::BasicNack {
+            delivery_tag: a,
+            multiple: b == 1,
+            requeue: c == 1,
+        },
+        _ => Command::TxSelect,
     }
 }
 
-fn is_nack(v: Found, with_multiple: bool, with_requeue: bool) -> bool {
-    match v {
-        Found::None => false,
-        Found::Command(c) => match c {
-            Command::BasicNack {
-                delivery_tag,
-                multiple,
-                requeue,
-            } => delivery_tag == 5 && multiple == with_multiple && requeue == with_requeue,
-            _ => false,
-        },
-    }
+fn command_at(line: &[u8]) -> Command {
+    let mut w = [0u64; 6];
+    script::numbers(line, 2, &mut w);
+    let id = w[0] % 1000 * 1000 + w[1] % 1000;
+    command_of(id, w[2], w[3], w[4], w[5])
 }
 
-fn is_select(v: Found) -> bool {
-    match v {
-        Found::None => false,
-        Found::Command(c) => match c {
-            Command::TxSelect => true,
-            _ => false,
-        },
-    }
-}
-
-// 10.31: three numbers; 10.40: a string, an empty one and a bit octet.
-fn connection(sheet: Sheet) -> Sheet {
-    let tune_ok = b"\0\x0A\0\x1F\x07\xFF\0\x02\0\0\0\x3C";
-    let tune = Command::ConnectionTuneOk {
-        channel_max: 2047,
-        frame_max: 131_072,
-        heartbeat: 60,
-    };
-    let open = b"\0\x0A\0\x28\x01/\0\0";
-    let vhost = Command::ConnectionOpen {
-        vhost: Span { start: 5, len: 1 },
-    };
-    let mut all = sheet;
-    all = all.line(b"4.2.4 tune-ok", b"read", is_tune_ok(read(tune_ok)));
-    all = all.line(b"4.2.4 tune-ok", b"written", writes(tune, b"", tune_ok));
-    all = all.line(b"10.40 open", b"read", is_open(read(open)));
-    all.line(b"10.40 open", b"written", writes(vhost, open, open))
-}
-
-// 50.10: durable is the second flag; 60.80: bench sheet 9 without its frame; 90.10: no arguments.
-fn others(sheet: Sheet) -> Sheet {
-    let declare = b"\0\x32\0\x0A\0\0\x01q\x02\0\0\0\0";
-    let queue = Command::QueueDeclare {
-        queue: Span { start: 7, len: 1 },
-        durable: true,
-    };
-    let ack = b"\0\x3C\0\x50\0\0\0\0\0\0\0\x05\x01";
-    let five = Command::BasicAck {
-        delivery_tag: 5,
-        multiple: true,
-    };
-    let select = b"\0\x5A\0\x0A";
-    let mut all = sheet;
-    all = all.line(b"50.10 durable", b"read", is_declare(read(declare)));
-    all = all.line(
-        b"50.10 durable",
-        b"written",
-        writes(queue, declare, declare),
-    );
-    all = all.line(b"9 ack payload", b"read", is_ack(read(ack)));
-    all = all.line(b"9 ack payload", b"written", writes(five, b"", ack));
-    all = all.line(b"90.10 select", b"read", is_select(read(select)));
-    all.line(
-        b"90.10 select",
-        b"written",
-        writes(Command::TxSelect, b"", select),
-    )
-}
-
-// 60.120: multiple is the first flag, requeue the second.
-fn nack(sheet: Sheet, name: &[u8], s: &[u8], multiple: bool, requeue: bool) -> Sheet {
-    let command = Command::BasicNack {
-        delivery_tag: 5,
-        multiple,
-        requeue,
-    };
-    let all = sheet.line(name, b"read", is_nack(read(s), multiple, requeue));
-    all.line(name, b"written", writes(command, b"", s))
-}
-
-// 0-9-1, 4.2.5.2: bits are packed, the first in the lowest.
-fn packed(sheet: Sheet) -> Sheet {
-    let first = b"\0\x3C\0\x78\0\0\0\0\0\0\0\x05\x01";
-    let second = b"\0\x3C\0\x78\0\0\0\0\0\0\0\x05\x02";
-    let both = b"\0\x3C\0\x78\0\0\0\0\0\0\0\x05\x03";
-    let third = b"\0\x3C\0\x78\0\0\0\0\0\0\0\x05\x04";
-    let mut all = sheet;
-    all = nack(all, b"4.2.5.2 nack multiple", first, true, false);
-    all = nack(all, b"4.2.5.2 nack requeue", second, false, true);
-    all = nack(all, b"4.2.5.2 nack both", both, true, true);
-    all.line(
-        b"nack with a third bit",
-        b"refused",
-        refuses(third, 7, &[12]),
-    )
-}
-
-// What no writer writes is refused at its place.
-fn refused(sheet: Sheet) -> Sheet {
-    let unknown = refuses(b"\0\x5A\0\x14", 6, &[90, 20]);
-    let spare = refuses(b"\0\x5A\0\x0A\0", 7, &[4]);
-    let string = refuses(b"\0\x14\0\x0A\x05", 7, &[4]);
-    let reserved = refuses(b"\0\x32\0\x1E\0\x01\x01q\0", 7, &[4]);
-    let cut = refuses(b"\0\x32\0\x1E\x01", 1, &[]);
-    let mut all = sheet;
-    all = all.line(b"90.20", b"refused", unknown);
-    all = all.line(b"spare octet", b"refused", spare);
-    all = all.line(b"string that must be empty", b"refused", string);
-    all = all.line(b"fixed field that differs", b"refused", reserved);
-    all.line(b"fixed field that is cut", b"refused", cut)
-}
-
-pub(crate) fn all(sheet: Sheet) -> Sheet {
-    let mut all = connection(sheet);
-    all = others(all);
-    all = packed(all);
-    refused(all)
+// Pool and command: the octets.
+pub(crate) fn writes(line: &[u8]) -> bool {
+    let mut pool = [0u8; 100];
+    let n = script::octets(line, 1, &mut pool);
+    let mut out = [0u8; 100];
+    lent::fill(&mut out);
+    let w = write_command(&mut out, 0, command_at(line), &pool[0..n], &[]);
+    written::as_told(line, w, &out)
 }

@@ -2,19 +2,14 @@
 ghost use Prim.Native.Nat.{_≤_};
 ghost use lib.ListN.{length};
 use lines::answer;
-use lines::lent;
-use lines::line;
 use method::Command;
 use method_reader::ReadCommand;
 use method_reader::commands::read_command;
 use table_read_cases::USED;
 use table_read_cases::kept;
-use table_read_cases::words_for;
+use table_read_cases::refused;
 use types::Cursor;
 use types::Span;
-
-// No command has a record for the tape: it is lent a few free ones, which must stay as they are.
-const ROOM: usize = 3;
 
 enum Argument {
     None,
@@ -199,33 +194,26 @@ pub fn and_command(c: Command, s: &[u8], out: &mut [u8], at: usize) -> usize
     show(of_command(c), s, out, at)
 }
 
+// No command fills a record.
 fn judge(r: ReadCommand, s: &[u8], tape: &[u64], out: &mut [u8], at: usize) -> usize
     ensures { λ r. ⌜ r ≤ length (now (out .entry)) ⌝ }
 {
-    if !kept(tape, 0) {
-        return print::text(out, at, b"# changed");
-    }
     match r {
+        ReadCommand::Refused(e) => refused(e, tape, out, at),
         ReadCommand::Value(c, count, next) => {
-            if count != 0 {
+            if count != 0 || !kept(tape, 0) {
                 return print::text(out, at, b"# changed");
             }
             let given = answer::given(out, at, next.at);
             and_command(c, s, out, given)
         }
-        ReadCommand::Refused(e) => answer::refused(out, at, e),
     }
 }
 
-pub fn answer(octets: &[u8], marks: &[usize], tape: &mut [u64], out: &mut [u8], at: usize) -> usize
+// What is read of `s` onto a tape that `fill_words` has filled.
+pub fn answer(s: &[u8], tape: &mut [u64], out: &mut [u8], at: usize) -> usize
     ensures { λ r. ⌜ r ≤ length (now (out .entry)) ⌝ }
 {
-    let words = words_for(ROOM, tape.len());
-    let s = line::field(octets, marks, 1);
-    if line::fields(marks) != 2 || words == 0 {
-        return print::put(out, at, b'?');
-    }
-    lent::fill_words(&mut tape[0..words]);
-    let r = read_command(s, Cursor { at: 0 }, &mut tape[0..words], USED);
-    judge(r, s, &tape[0..words], out, at)
+    let r = read_command(s, Cursor { at: 0 }, tape, USED);
+    judge(r, s, tape, out, at)
 }

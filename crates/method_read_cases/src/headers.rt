@@ -2,8 +2,6 @@
 ghost use Prim.Native.Nat.{_≤_};
 ghost use lib.ListN.{length};
 use lines::answer;
-use lines::lent;
-use lines::line;
 use method::ContentHeader;
 use method::ContentProperties;
 use method::OptSpan;
@@ -15,8 +13,7 @@ use method_reader::headers::read_content_header;
 use table_read_cases::USED;
 use table_read_cases::kept;
 use table_read_cases::records;
-use table_read_cases::room_for;
-use table_read_cases::words_for;
+use table_read_cases::refused;
 use types::Cursor;
 use types::Span;
 
@@ -180,54 +177,14 @@ fn judge(
             let given = print::text(out, at, b"= -");
             and_header(header, s, tape, by_words, out, given)
         }
-        ReadContentHeader::Refused(e) => {
-            if !kept(tape, 0) {
-                return print::text(out, at, b"# changed");
-            }
-            answer::refused(out, at, e)
-        }
+        ReadContentHeader::Refused(e) => refused(e, tape, out, at),
     }
 }
 
-// The reader is lent `room` free records.
-fn answer_lent(
-    octets: &[u8],
-    marks: &[usize],
-    room: usize,
-    by_words: bool,
-    tape: &mut [u64],
-    out: &mut [u8],
-    at: usize,
-) -> usize
+// What is read of `s` onto a tape that `fill_words` has filled.
+pub fn answer(s: &[u8], tape: &mut [u64], by_words: bool, out: &mut [u8], at: usize) -> usize
     ensures { λ r. ⌜ r ≤ length (now (out .entry)) ⌝ }
 {
-    let words = words_for(room, tape.len());
-    let s = line::field(octets, marks, 1);
-    if line::fields(marks) != 2 || words == 0 {
-        return print::put(out, at, b'?');
-    }
-    lent::fill_words(&mut tape[0..words]);
-    let r = read_content_header(s, Cursor { at: 0 }, &mut tape[0..words], USED);
-    judge(r, s, &tape[0..words], by_words, out, at)
-}
-
-// 51: a tape of `room` records, whose words are shown.
-pub fn answer_with_room(
-    octets: &[u8],
-    marks: &[usize],
-    room: usize,
-    tape: &mut [u64],
-    out: &mut [u8],
-    at: usize,
-) -> usize
-    ensures { λ r. ⌜ r ≤ length (now (out .entry)) ⌝ }
-{
-    answer_lent(octets, marks, room, true, tape, out, at)
-}
-
-pub fn answer(octets: &[u8], marks: &[usize], tape: &mut [u64], out: &mut [u8], at: usize) -> usize
-    ensures { λ r. ⌜ r ≤ length (now (out .entry)) ⌝ }
-{
-    let room = room_for(line::field(octets, marks, 1).len());
-    answer_lent(octets, marks, room, false, tape, out, at)
+    let r = read_content_header(s, Cursor { at: 0 }, tape, USED);
+    judge(r, s, tape, by_words, out, at)
 }

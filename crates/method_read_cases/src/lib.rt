@@ -1,4 +1,3 @@
-// Cases of the readers of commands and content headers: 07 read_content_header, 40 read_command; 51, the former over a tape of a
-// given number of records. The crate `lines` has their form.
+// Cases of the readers of commands and content headers: 07 read_content_header, 40 read_command. The crate `lines` has their form.
 pub mod commands;
 pub mod headers;

@@ -13,7 +13,7 @@ use crate::headers::HeaderCase;
 use crate::headers::header_case;
 use crate::headers::repeated_header_case;
 use lines::lent;
-use lines::written;
+use lines::written::Outcome;
 use method::Command;
 use method::ContentHeader;
 use method_writer::commands::write_command;
@@ -66,94 +66,69 @@ fn write_lent(
     tape: &[u64],
     space: Space,
     lent: &mut [u8],
-    out: &mut [u8],
-    at: usize,
-) -> usize
-    ensures { λ r. ⌜ r ≤ length (now (out .entry)) ⌝ }
-{
+) -> Outcome {
     let n = space_for(space, marks, tape, lent.len());
     if lent.len() < n {
-        return print::put(out, at, b'?');
+        return Outcome::NoCase;
     }
     lent::fill(&mut lent[0..n]);
     let w = write(payload, octets, tape, &mut lent[0..n]);
-    written::answer(w, &lent[0..n], out, at)
+    Outcome::Answered(w, n)
 }
 
-fn answer_header(
+fn outcome_of_header(
     case: HeaderCase,
     octets: &[u8],
     marks: &[usize],
     space: Space,
     lent: &mut [u8],
     tape: &[u64],
-    out: &mut [u8],
-    at: usize,
-) -> usize
-    ensures { λ r. ⌜ r ≤ length (now (out .entry)) ⌝ }
-{
+) -> Outcome {
     match case {
-        HeaderCase::None => print::put(out, at, b'?'),
+        HeaderCase::None => Outcome::NoCase,
         HeaderCase::Header(header, n) => {
             if tape.len() < n {
-                return print::put(out, at, b'?');
+                return Outcome::NoCase;
             }
             let payload = Payload::Header(header);
-            write_lent(payload, octets, marks, &tape[0..n], space, lent, out, at)
+            write_lent(payload, octets, marks, &tape[0..n], space, lent)
         }
     }
 }
 
 // 30 and 31: class and what follows it.
-pub fn answer(
+pub fn outcome(
     op: u8,
     octets: &[u8],
     marks: &[usize],
     space: Space,
     lent: &mut [u8],
     tape: &mut [u64],
-    out: &mut [u8],
-    at: usize,
-) -> usize
-    ensures { λ r. ⌜ r ≤ length (now (out .entry)) ⌝ }
-{
+) -> Outcome {
     if op == 0x31 {
         let case = header_case(octets, marks, tape);
-        return answer_header(case, octets, marks, space, lent, tape, out, at);
+        return outcome_of_header(case, octets, marks, space, lent, tape);
     }
     if !is_command(octets, marks) {
-        return print::put(out, at, b'?');
+        return Outcome::NoCase;
     }
     let payload = Payload::Command(command(octets, marks));
-    write_lent(payload, octets, marks, &tape[0..0], space, lent, out, at)
+    write_lent(payload, octets, marks, &tape[0..0], space, lent)
 }
 
 // 52 of 31: how many octets of the line, whatever they are, the pool is; how many times more the last record stands; the fields of
 // 31, the headers being the tape alone.
-pub fn answer_repeated(
+pub fn outcome_repeated(
     op: u8,
     octets: &[u8],
     marks: &[usize],
     space: usize,
     lent: &mut [u8],
     tape: &mut [u64],
-    out: &mut [u8],
-    at: usize,
-) -> usize
-    ensures { λ r. ⌜ r ≤ length (now (out .entry)) ⌝ }
-{
+) -> Outcome {
     if op != 0x31 {
-        return print::put(out, at, b'?');
+        return Outcome::NoCase;
     }
     let case = repeated_header_case(octets, marks, tape);
-    answer_header(
-        case,
-        octets,
-        marks,
-        Space::Octets(space),
-        lent,
-        tape,
-        out,
-        at,
-    )
+    outcome_of_header(case, octets, marks, Space::Octets(space), lent, tape)
 }

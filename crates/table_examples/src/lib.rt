@@ -1,18 +1,15 @@
-// Worked examples of field tables and lone values: document 01's bench sheet, the porter's mistakes and the differences to list,
-// and 0-9-1, 4.2.5.5. Expected answers are written out from the documents.
-mod differences;
-mod entries;
-mod floats;
+// Examples of field tables and lone values: document 01's bench sheet, the porter's mistakes and the differences to list, and
+// 0-9-1, 4.2.5.5. The crate `examples` has their form, crates/bench_sheet/stdin the examples.
 mod leaves;
-mod nested;
 mod tried;
 
-use examples::Sheet;
-
-pub fn all(sheet: Sheet) -> Sheet {
-    let mut all = entries::all(sheet);
-    all = nested::all(all);
-    all = leaves::all(all);
-    all = floats::all(all);
-    differences::all(all)
+// 01 read_field_table, 02 read_field_value, 33 write_field_table, 34 write_field_value, 63 the value of a record, 64 a float that
+// is two times at once.
+pub fn right(op: u8, line: &[u8]) -> bool {
+    match op {
+        0x01..=0x02 => tried::reads(op, line),
+        0x33..=0x34 => tried::writes(op, line),
+        0x63 => leaves::has_value(line),
+        _ => leaves::is_both_times(line),
+    }
 }

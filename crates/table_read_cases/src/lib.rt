@@ -1,5 +1,5 @@
-// Cases of the readers of tables: 01 field_table, 02 field_value; 51, one of them over a tape of a given number of records. The
-// crate `lines` has their form.
+// Cases of the readers of tables: 01 field_table, 02 field_value; and the tape that these and other readers are lent. The crate `lines`
+// has their form.
 ghost use mathlib.Core.Path.{_≡_};
 ghost use mathlib.Core.Bool.{false};
 ghost use Prim.Native.Nat.{_≤_};
@@ -9,12 +9,12 @@ pub mod record;
 
 use lines::answer;
 use lines::lent;
-use lines::line;
 use table_reader::ReadRecords;
 use table_reader::read_field_table;
 use table_reader::read_field_value;
 use tables::tape::RECORD_WORDS;
 use types::Cursor;
+use types::WireError;
 
 // One record in front is used.
 pub const USED: usize = 1;
@@ -87,10 +87,21 @@ pub fn kept(tape: &[u64], count: usize) -> bool
         && lent::kept_words(tape, (USED + count) * RECORD_WORDS)
 }
 
+// A refusal, which must leave the tape as it was.
+pub fn refused(e: WireError, tape: &[u64], out: &mut [u8], at: usize) -> usize
+    ensures { λ r. ⌜ r ≤ length (now (out .entry)) ⌝ }
+{
+    if !kept(tape, 0) {
+        return print::text(out, at, b"# changed");
+    }
+    answer::refused(out, at, e)
+}
+
 fn judge(r: ReadRecords, s: &[u8], tape: &[u64], by_words: bool, out: &mut [u8], at: usize) -> usize
     ensures { λ r. ⌜ r ≤ length (now (out .entry)) ⌝ }
 {
     match r {
+        ReadRecords::Refused(e) => refused(e, tape, out, at),
         ReadRecords::Value(count, next) => {
             if !kept(tape, count) {
                 return print::text(out, at, b"# changed");
@@ -98,12 +109,6 @@ fn judge(r: ReadRecords, s: &[u8], tape: &[u64], by_words: bool, out: &mut [u8],
             let given = answer::given(out, at, next.at);
             let end = print::put(out, given, b' ');
             records(s, tape, count, by_words, out, end)
-        }
-        ReadRecords::Refused(e) => {
-            if !kept(tape, 0) {
-                return print::text(out, at, b"# changed");
-            }
-            answer::refused(out, at, e)
         }
     }
 }
@@ -121,44 +126,6 @@ pub fn words_for(room: usize, all: usize) -> usize
     room * RECORD_WORDS + BESIDE
 }
 
-// The reader is lent `room` free records.
-fn answer_lent(
-    op: u8,
-    octets: &[u8],
-    marks: &[usize],
-    room: usize,
-    by_words: bool,
-    tape: &mut [u64],
-    out: &mut [u8],
-    at: usize,
-) -> usize
-    ensures { λ r. ⌜ r ≤ length (now (out .entry)) ⌝ }
-{
-    let words = words_for(room, tape.len());
-    let s = line::field(octets, marks, 1);
-    if line::fields(marks) != 2 || words == 0 {
-        return print::put(out, at, b'?');
-    }
-    lent::fill_words(&mut tape[0..words]);
-    let r = read(op, s, &mut tape[0..words]);
-    judge(r, s, &tape[0..words], by_words, out, at)
-}
-
-// 51: a tape of `room` records, whose words are shown.
-pub fn answer_with_room(
-    op: u8,
-    octets: &[u8],
-    marks: &[usize],
-    room: usize,
-    tape: &mut [u64],
-    out: &mut [u8],
-    at: usize,
-) -> usize
-    ensures { λ r. ⌜ r ≤ length (now (out .entry)) ⌝ }
-{
-    answer_lent(op, octets, marks, room, true, tape, out, at)
-}
-
 // A record takes an octet or more, so as many records as octets suffice.
 pub fn room_for(len: usize) -> usize
     ensures { λ r. ⌜ r ≤ len ⌝ }
@@ -166,17 +133,17 @@ pub fn room_for(len: usize) -> usize
     if len < MOST { len } else { MOST }
 }
 
-// 01 and 02.
+// 01 and 02: what is read of `s` onto a tape that `fill_words` has filled.
 pub fn answer(
     op: u8,
-    octets: &[u8],
-    marks: &[usize],
+    s: &[u8],
     tape: &mut [u64],
+    by_words: bool,
     out: &mut [u8],
     at: usize,
 ) -> usize
     ensures { λ r. ⌜ r ≤ length (now (out .entry)) ⌝ }
 {
-    let room = room_for(line::field(octets, marks, 1).len());
-    answer_lent(op, octets, marks, room, false, tape, out, at)
+    let r = read(op, s, tape);
+    judge(r, s, tape, by_words, out, at)
 }

@@ -5,7 +5,7 @@ ghost use Prim.Native.Nat.{_≤_};
 ghost use lib.ListN.{length};
 use lines::lent;
 use lines::line;
-use lines::written;
+use lines::written::Outcome;
 use table_writer::write_field_table;
 use table_writer::write_field_value;
 use tables::ReadRecord;
@@ -97,23 +97,13 @@ fn write(op: u8, pool: &[u8], tape: &[u64], lent: &mut [u8]) -> Written {
 }
 
 // The writer is lent `space` octets.
-fn write_tape(
-    op: u8,
-    pool: &[u8],
-    tape: &[u64],
-    space: usize,
-    lent: &mut [u8],
-    out: &mut [u8],
-    at: usize,
-) -> usize
-    ensures { λ r. ⌜ r ≤ length (now (out .entry)) ⌝ }
-{
+fn write_tape(op: u8, pool: &[u8], tape: &[u64], space: usize, lent: &mut [u8]) -> Outcome {
     if lent.len() < space {
-        return print::put(out, at, b'?');
+        return Outcome::NoCase;
     }
     lent::fill(&mut lent[0..space]);
     let w = write(op, pool, tape, &mut lent[0..space]);
-    written::answer(w, &lent[0..space], out, at)
+    Outcome::Answered(w, space)
 }
 
 fn space_for(space: Space, tape: &[u64], most: usize) -> usize {
@@ -124,30 +114,26 @@ fn space_for(space: Space, tape: &[u64], most: usize) -> usize {
 }
 
 // 33 and 34: a pool and the words of a tape.
-pub fn answer(
+pub fn outcome(
     op: u8,
     octets: &[u8],
     marks: &[usize],
     space: Space,
     lent: &mut [u8],
     tape: &mut [u64],
-    out: &mut [u8],
-    at: usize,
-) -> usize
-    ensures { λ r. ⌜ r ≤ length (now (out .entry)) ⌝ }
-{
+) -> Outcome {
     let pool = line::field(octets, marks, 1);
     let words = line::field(octets, marks, 2);
     let n = words.len() / WORD_OCTETS;
     if line::fields(marks) != 3 || words.len() % WORD_OCTETS != 0 {
-        return print::put(out, at, b'?');
+        return Outcome::NoCase;
     }
     if tape.len() < n {
-        return print::put(out, at, b'?');
+        return Outcome::NoCase;
     }
     load(words, &mut tape[0..n]);
     let lent_octets = space_for(space, &tape[0..n], lent.len());
-    write_tape(op, pool, &tape[0..n], lent_octets, lent, out, at)
+    write_tape(op, pool, &tape[0..n], lent_octets, lent)
 }
 
 // The word that stands a record before word i; 0 where there is none.
@@ -200,40 +186,32 @@ fn write_repeated(
     space: usize,
     lent: &mut [u8],
     tape: &mut [u64],
-    out: &mut [u8],
-    at: usize,
-) -> usize
-    ensures { λ r. ⌜ r ≤ length (now (out .entry)) ⌝ }
-{
+) -> Outcome {
     let n = repeated_words(words.len() / WORD_OCTETS, times, tape.len());
     if words.len() % WORD_OCTETS != 0 || n == 0 {
-        return print::put(out, at, b'?');
+        return Outcome::NoCase;
     }
     if octets.len() < pool {
-        return print::put(out, at, b'?');
+        return Outcome::NoCase;
     }
     load_repeated(words, &mut tape[0..n]);
-    write_tape(op, &octets[0..pool], &tape[0..n], space, lent, out, at)
+    write_tape(op, &octets[0..pool], &tape[0..n], space, lent)
 }
 
 // 52: how many octets of the line, whatever they are, the pool is; how many times more the last record stands; the words of a tape.
-pub fn answer_repeated(
+pub fn outcome_repeated(
     op: u8,
     octets: &[u8],
     marks: &[usize],
     space: usize,
     lent: &mut [u8],
     tape: &mut [u64],
-    out: &mut [u8],
-    at: usize,
-) -> usize
-    ensures { λ r. ⌜ r ≤ length (now (out .entry)) ⌝ }
-{
+) -> Outcome {
     let words = line::field(octets, marks, 3);
     if line::fields(marks) != 4 {
-        return print::put(out, at, b'?');
+        return Outcome::NoCase;
     }
     let pool = line::number(octets, marks, 1);
     let times = line::number(octets, marks, 2);
-    write_repeated(op, octets, words, pool, times, space, lent, tape, out, at)
+    write_repeated(op, octets, words, pool, times, space, lent, tape)
 }

@@ -1,0 +1,36 @@
+-- `examples::script::numbers` meets its contract. Assumes nothing.
+use mathlib.Core.Path.{_≡_}
+use Prim.Native.Nat.{_-_, _≤_}
+use lib.ListN.{length}
+use borrow.Author.Needs.{needs}
+use Rattle.examples.proofs.script.numbers.Statement.{statement}
+use Rattle.examples.proofs.script.numbers.Tie as tie
+
+abbrev Inv-loop : tie.InvT-loop
+Inv-loop line k out₀ at₀ n₀ out at n = (length out ≡ length out₀) × (n ≤ length out₀)
+
+abbrev μ-loop : tie.MeasureT-loop
+μ-loop line k out₀ at₀ n₀ out at n = length out₀ - n
+
+pub numbers-spec : {M : Type 1} → statement M
+numbers-spec =
+    tie.close
+    (tie.spec
+    Inv-loop
+    μ-loop
+    (λ c. search needs)
+    (λ c. search needs)
+    (λ c. search needs)
+    (λ c κs. search needs)
+    (λ c κs. search needs)
+    (λ c. search needs)
+    (λ c. search needs)
+    (λ c κs. search needs)
+    (λ c. search needs)
+    (λ c. search needs)
+    (λ c. search needs)
+    (λ c. search needs)
+    (λ c. search needs)
+    (λ c. search needs)
+    (λ c. search needs)
+    (λ c. search needs))
