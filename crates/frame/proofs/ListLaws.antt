@@ -343,22 +343,3 @@ module _ {F L M : Type 0} (C : Framing F L M) (W : Laws C) where
             ∙ reads-back gs (upTo-accepted xs 0 (length s) ax) s tape 0 0 (upTo-stands xs s 0 (omega arith) e)
             (subst (λ (l : List Record). Stands l 0 (records 0 gs)) (bt .1) (stands-head (records 0 gs) (bt .0)));
       })
-
-  -- Wherever the octets of a list are cut, from before the first to after the last
-  pub at-cut : (xs : List F) → All (C .Accepted) xs → (n : ℕ) → n ≤ length (concatMap (C .octetsOf) xs) → (reg room : ℕ)
-      → length (upTo (C .octetsOf) 0 n xs) ≤ reg → total (C .cost) (upTo (C .octetsOf) 0 n xs) ≤ room
-      → (register : List Entry) (tape : List Record)
-      → IsPrefix (walkFrom (C .step) n (take n (concatMap (C .octetsOf) xs)) 0 reg room 0 .register) register
-      → IsPrefix (walkFrom (C .step) n (take n (concatMap (C .octetsOf) xs)) 0 reg room 0 .tape) tape
-      → AtCut C (take n (concatMap (C .octetsOf) xs)) (upTo (C .octetsOf) 0 n xs) (walkFrom (C .step) n (take n (concatMap (C .octetsOf) xs)) 0 reg room 0) register tape
-  at-cut xs ax n h reg room hr ht register tape =
-      let o = concatMap (C .octetsOf) xs in
-      let l = length-take-le n o h in
-      let hr′ : length (upTo (C .octetsOf) 0 (length (take n o)) xs) ≤ reg = rw l hr in
-      let ht′ : total (C .cost) (upTo (C .octetsOf) 0 (length (take n o)) xs) ≤ room = rw l ht in
-      subst
-      (λ (m : ℕ).
-      IsPrefix (walkFrom (C .step) m (take n o) 0 reg room 0 .register) register → IsPrefix (walkFrom (C .step) m (take n o) 0 reg room 0 .tape) tape
-      → AtCut C (take n o) (upTo (C .octetsOf) 0 m xs) (walkFrom (C .step) m (take n o) 0 reg room 0) register tape)
-      l
-      (at-prefix xs ax (take n o) (drop n o, take-append-drop n o) reg room hr′ ht′ register tape)

@@ -62,10 +62,6 @@ keyed-in (r ∷ rs) c m h e =
 pub fields-keyed : (c m : ℕ) → m < 100000 → fieldsIn commands c m ≡ lookup none (keyed commands) (c * 100000 + m)
 fields-keyed c m h = keyed-in commands c m h (unfold commands in refl)
 
-pub known-keyed : (c m : ℕ) → m < 100000 → known c m ≡ isSome (lookup none (keyed commands) (c * 100000 + m))
-unfolding known
-known-keyed c m h = ap isSome (fields-keyed c m h)
-
 -- In a match on the key: an arm of one key, and the rest
 pub arm-fields : (k c m : ℕ) → m < 100000 → OneOf (k ∷ []) (c * 100000 + m) → fieldsIn commands c m ≡ lookup none (keyed commands) k
 arm-fields k c m h o = fields-keyed c m h ∙ arm (lookup none (keyed commands)) (lookup none (keyed commands) k) (k ∷ []) (c * 100000 + m) (refl, tt) o

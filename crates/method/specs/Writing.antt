@@ -136,10 +136,7 @@ commandRefusal letters (call c m vs) = refusalOf letters (fieldsOf c m) vs
 unfoldable pub headerRefusal : Letters → Header Sent → Option Refusal
 headerRefusal letters (header c n present vs) = refusalOf letters (select present properties) vs
 
--- The writers
-
-unfoldable pub writeCommand : Letters → Command Sent → ℕ → List ℕ → Outcome Unit
-writeCommand letters x at out = writeAt (commandRefusal letters x) (commandOctets letters (sentCommandMeaning letters x)) at out
+-- The header writer
 
 unfoldable pub writeHeader : Letters → Header Sent → ℕ → List ℕ → Outcome Unit
 writeHeader letters x at out = writeAt (headerRefusal letters x) (headerOctets letters (sentHeaderMeaning letters x)) at out

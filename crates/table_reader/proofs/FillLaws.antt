@@ -191,13 +191,6 @@ module _ (letters : Letters) (d : ℕ) (s : List ℕ) where
       let m = container-move (valueAt letters d) (value-move letters d) named s p room t n e in
       container-room (valueAt letters d) (value-room letters d) named s p room t n e (length s) ∙ (rw (leb-yes (size t) (length s) (omega (arith, m .far, m .inside))))
 
-  pub entries-whole : (named : Bool) (p end room : ℕ) (t : LocatedTable) (n : ℕ) → p ≤ length s → entriesAt (valueAt letters d) named s p end room ≡ given t n
-      → entriesAt (valueAt letters d) named s p end (length s) ≡ given t n
-  unfolding entriesAt
-  entries-whole named p end room t n h e =
-      let m = entries-fuel-move (valueAt letters d) named s (value-move letters d) (end - p) p end room t n h e in
-      entries-fuel-room (valueAt letters d) (value-room letters d) named s (end - p) p end room t n e (length s) ∙ (rw (leb-yes (size t) (length s) (omega (arith, m .far, m .inside))))
-
 -- The loop over the entries, at position p and record k: what is left, when it is done, does the whole
 pub record Going (letters : Letters) (d : ℕ) (named : Bool) (s : List ℕ) (start end : ℕ) (tape₀ : List ℕ) (k₀ : ℕ) (tape : List ℕ) (p k : ℕ) : Type 0 where
   pub room : ℕ

@@ -190,34 +190,6 @@ payload-move d below h c (container b) s p room v n e =
     let w = given-value _ v q n h1 in
     rw (← w) (omega (arith, a .far), omega (arith, a .inside), omega (arith, a .fits, yes-leb 1 room (o2 .0))))
 
--- a payload, case by case
-module _ (d : ℕ) (below : Bool → Reader LocatedTable) (c : ℕ) (s : List ℕ) (p room : ℕ) where
-  pub payload-unknown : payloadAt d below c unknown s p room ≡ refused (unsupportedFieldType c)
-  unfolding payloadAt
-  payload-unknown = refl
-
-  pub payload-full : (l : Leaf) → room ≡ 0 → payloadAt d below c (leaf l) s p room ≡ refused tapeFull
-  unfolding payloadAt
-  payload-full l h = rw (leb-no 1 room (omega arith))
-
-  pub payload-leaf : (l : Leaf) → 0 < room
-      → payloadAt d below c (leaf l) s p room ≡ andThen (leafAt l s p) (λ x q. given (record { letter = c; payload = x; beneath = none }) q)
-  unfolding payloadAt
-  payload-leaf l h = rw (leb-yes 1 room h)
-
-  pub payload-deep : (b : Bool) → d ≡ 0 → payloadAt d below c (container b) s p room ≡ refused tooDeep
-  unfolding payloadAt
-  payload-deep b h = rw (leb-no 1 d (omega arith))
-
-  pub payload-container-full : (b : Bool) → 0 < d → room ≡ 0 → payloadAt d below c (container b) s p room ≡ refused tapeFull
-  unfolding payloadAt
-  payload-container-full b h z = rw (leb-yes 1 d h, leb-no 1 room (omega arith))
-
-  pub payload-container : (b : Bool) → 0 < d → 0 < room
-      → payloadAt d below c (container b) s p room ≡ andThen (below b s p (room - 1)) (λ u q. given (record { letter = c; payload = words 0 0; beneath = u }) q)
-  unfolding payloadAt
-  payload-container b h r = rw (leb-yes 1 d h, leb-yes 1 room r)
-
 module _ (letters : Letters) where
   -- what reads the tables and arrays beneath a value that has d levels below it
   abbrev pub belowAt : ℕ → Bool → Reader LocatedTable

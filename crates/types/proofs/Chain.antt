@@ -22,10 +22,6 @@ pub need-given : {A : Type 0} (b : Bool) (r : Refusal) (x : Answer A) (a : A) (n
 need-given true r x a n e = (refl, e)
 need-given false r x a n e = let z : _≡_ {A = ℕ} 0 1 = cc in absurd (omega arith)
 
-pub need-agree : {A : Type 0} (b : Bool) (r : Refusal) (x y : Answer A) → (b ≡ true → x ≡ y) → need b r x ≡ need b r y
-need-agree true r x y h = h refl
-need-agree false r x y h = refl
-
 pub given-next : {A : Type 0} (a b : A) (m n : ℕ) → _≡_ {A = Answer A} (given a m) (given b n) → m ≡ n
 given-next a b m n e = cc
 

@@ -19,10 +19,6 @@ pub record Cut (s : List ℕ) (p : ℕ) (xs : List ℕ) : Type 0 where
   pub less : length s < p + length xs
   pub same : drop p s ≡ take (length (drop p s)) xs
 
--- nothing is left exactly at the end
-pub drop-end : (s : List ℕ) (p : ℕ) → p ≤ length s → length (drop p s) ≡ 0 → p ≡ length s
-drop-end s p h e = omega (arith, length-drop p s)
-
 pub length-zero : {A : Type 0} (s : List A) → length s ≡ 0 → s ≡ []
 length-zero [] e = refl
 length-zero (x ∷ s) e = absurd (omega arith)
