@@ -4,6 +4,9 @@ use crate::frame::{Frame, FrameType};
 use crate::method::{basic_ack, parse_content_header};
 use std::hint::black_box;
 
+/// A payload as words: crates/payload_words.
+type Payload = [u64; 26];
+
 unsafe extern "C" {
     fn amqp_walk(
         s: *const u8,
@@ -21,15 +24,15 @@ unsafe extern "C" {
         tape: *mut u64,
         tape_len: usize,
         used: usize,
+        payload: &mut Payload,
         words: &mut Words,
     ) -> u32;
-    fn amqp_write_body(
+    fn amqp_write_frame(
         out: *mut u8,
         len: usize,
         at: usize,
         channel: u16,
-        start: usize,
-        body_len: usize,
+        payload: &Payload,
         pool: *const u8,
         pool_len: usize,
         tape: *const u64,
@@ -115,10 +118,10 @@ fn body_frame(len: usize) -> (Frame, &'static [u8]) {
 fn read_body(what: &str, len: usize) -> Line {
     let (_, octets) = body_frame(len);
     let read = move || {
-        let mut words = [0; 4];
+        let (mut payload, mut words) = ([0; 26], [0; 4]);
         let octets = black_box(octets);
-        let code = unsafe { amqp_read_frame(octets.as_ptr(), octets.len(), 0, [].as_mut_ptr(), 0, 0, &mut words) };
-        assert_eq!((code, words[1]), (0, 3));
+        let code = unsafe { amqp_read_frame(octets.as_ptr(), octets.len(), 0, [].as_mut_ptr(), 0, 0, &mut payload, &mut words) };
+        assert_eq!((code, payload[0], payload[2]), (0, 3, len as u64));
         words[0]
     };
     assert_eq!(read(), octets.len() as u64);
@@ -137,11 +140,13 @@ fn write_body(what: &str, len: usize) -> Line {
     let mut out = vec![0; octets.len()];
     let mut copy = vec![0; octets.len()];
     let mut write = move || {
-        let mut words = [0; 4];
+        let (mut payload, mut words) = ([0; 26], [0; 4]);
         let pool = black_box(pool);
         let (tape, n): ([u64; 0], _) = ([], out.len());
+        payload[0] = 3;
+        payload[2] = pool.len() as u64;
         let code = unsafe {
-            amqp_write_body(out.as_mut_ptr(), n, 0, 1, 0, pool.len(), pool.as_ptr(), pool.len(), tape.as_ptr(), 0, &mut words)
+            amqp_write_frame(out.as_mut_ptr(), n, 0, 1, &payload, pool.as_ptr(), pool.len(), tape.as_ptr(), 0, &mut words)
         };
         assert_eq!((code, words[0]), (0, n as u64));
         u64::from(black_box(&out)[n - 1])

@@ -12,10 +12,14 @@ use Rattle.types.specs.Memory.{Outcome, outcome}
 use Rattle.types.specs.declared.Numbered.{Numbered}
 use Rattle.types.specs.declared.WireError.{WireError}
 use Rattle.types.specs.declared.WireError.the-variants.{Truncated, ShortStrTooLong, UnsupportedFieldType, NotUtf8, BadTape, UnknownMethod, NotWritten, TooDeep, TooLong, TapeFull, NoSpace}
+use Rattle.types.specs.declared.Span.{Span}
+use Rattle.tables.specs.Tape.{WithCount}
+use Rattle.method.specs.Fields.{Returned}
+use Rattle.frame.specs.Step.{FrameOf}
 use Rattle.frame.specs.Walk.{WalkOutcome}
 use Rattle.frame_reader.specs.AnswerOf.{stopRefusal, walkOutcomeOf}
 use Rattle.frame_reader.specs.declared.Walked.{Walked}
-use Rattle.amqp_ffi.specs.Reply.{Reply, reply, refusalReply, replyOf, replyWithOf, stopReply, walkReplyOf}
+use Rattle.amqp_ffi.specs.Reply.{Reply, reply, refusalReply, replyOf, replyWithOf, stopReply, walkReplyOf, frame, payloadAfter, frameReplyOf}
 
 abbrev bare : Numbered → Reply
 bare n = reply (n .number) (0 ∷ 0 ∷ 0 ∷ 0 ∷ [])
@@ -66,3 +70,11 @@ with-memory {A} f {p} {a} {memory} e w = ap (λ (q : Reply). record { answer = q
 pub with-memories : (w : Walked) {p : Reply} {tape register : List ℕ} {o : WalkOutcome} → p ≡ stopReply (w .consumed) (w .frames) (stopRefusal (w .refusal)) → walkOutcomeOf w tape register ≡ o
     → record { answer = p; tape = tape; register = register } ≡ walkReplyOf o
 with-memories w {tape = tape} {register = register} e q = ap (λ (p : Reply). record { answer = p; tape = tape; register = register }) e ∙ ap walkReplyOf q
+
+-- and with the tape and the payload's words
+pub with-payload : {p : Reply} {a : Answer (WithCount (FrameOf Returned Span))} {tape payload : List ℕ} {o : Outcome (WithCount (FrameOf Returned Span))} (before : List ℕ)
+    → p ≡ replyOf frame a → payload ≡ payloadAfter a before → outcome a tape ≡ o → record { answer = p; tape = tape; payload = payload } ≡ frameReplyOf o before
+with-payload {a = a} {tape = tape} {payload = payload} before e f w =
+    ap (λ (q : Reply). record { answer = q; tape = tape; payload = payload }) e
+    ∙ ap (λ (ws : List ℕ). record { answer = replyOf frame a; tape = tape; payload = ws }) f
+    ∙ ap (λ (x : Outcome (WithCount (FrameOf Returned Span))). frameReplyOf x before) w

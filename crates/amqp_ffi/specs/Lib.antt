@@ -1,3 +1,4 @@
 -- What the exported functions answer.
 pub mod Reply
 pub mod Methods
+pub mod Frames

@@ -14,6 +14,7 @@ use Rattle.frame.specs.Frame.{Frame}
 use Rattle.frame.specs.Step.{FrameOf}
 use Rattle.frame.specs.Walk.{WalkOutcome}
 use Rattle.frame.specs.Writing.{typeOf}
+use Rattle.payload_words.specs.Words.{payloadWords}
 
 pub record Reply : Type 0 where
   pub code : ℕ
@@ -88,3 +89,19 @@ stopReply consumed frames (some r) = reply (r .number) (four (consumed ∷ frame
 
 abbrev pub walkReplyOf : WalkOutcome → WalkReply
 walkReplyOf w = record { answer = stopReply (w .consumed) (w .frames) (w .refusal); tape = w .tape; register = w .register }
+
+-- the frame reader's: it leaves the tape and, if it has read a frame, the words of its payload
+pub record FrameReply : Type 0 where
+  pub answer : Reply
+  pub tape : List ℕ
+  pub payload : List ℕ
+
+abbrev pub frameReply : ℕ → List ℕ → List ℕ → List ℕ → FrameReply
+frameReply code words tape payload = record { answer = reply code words; tape = tape; payload = payload }
+
+abbrev pub payloadAfter : Answer (WithCount (FrameOf Returned Span)) → List ℕ → List ℕ
+payloadAfter (given w next) before = payloadWords (w .value .payload)
+payloadAfter (refused r) before = before
+
+abbrev pub frameReplyOf : Outcome (WithCount (FrameOf Returned Span)) → List ℕ → FrameReply
+frameReplyOf (outcome a tape) before = record { answer = replyOf frame a; tape = tape; payload = payloadAfter a before }

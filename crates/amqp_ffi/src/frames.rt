@@ -2,23 +2,25 @@
 ghost use mathlib.Core.Path.{_≡_};
 ghost use Rattle.tables.specs.Letters.{errata};
 ghost use Rattle.frame.specs.Frame.{decodeAt};
-ghost use Rattle.frame.specs.Step.{body, readFrame};
+ghost use Rattle.frame.specs.Step.{readFrame};
 ghost use Rattle.frame.specs.Walk.{walk};
-ghost use Rattle.frame.specs.Writing.{writeFrame};
+ghost use Rattle.payload_words.specs.Words.{payloadFrom};
 ghost use Rattle.frame_reader.specs.AnswerOf.{answerOfReadFrame, stopRefusal};
-ghost use Rattle.amqp_ffi.specs.Reply.{reply, replyOf, replyWith, replyWithOf, walkReply, walkReplyOf, stopReply, decoded, frame, nothing};
+ghost use Rattle.amqp_ffi.specs.Reply.{reply, replyOf, replyWith, replyWithOf, walkReply, walkReplyOf, stopReply, frameReply, frameReplyOf, payloadAfter, decoded, frame, nothing};
+ghost use Rattle.amqp_ffi.specs.Frames.{writeFrom};
 use crate::reply::give_three;
 use crate::reply::refuse;
 use crate::reply::reply_written;
-use frame::Payload;
 use frame_reader::Decoded;
 use frame_reader::ReadFrame;
 use frame_reader::Stop;
 use frame_reader::decode::decode;
 use frame_reader::step::read_frame;
 use frame_writer::write::write_frame;
+use payload_words::PayloadFrom;
+use payload_words::payload_from;
+use payload_words::payload_words;
 use types::Cursor;
-use types::Span;
 
 // Type, channel, and the length of the payload, which begins behind the first seven octets.
 #[no_mangle]
@@ -40,13 +42,14 @@ pub extern "C" fn amqp_decode(s: &[u8], at: usize, words: &mut [u64; 4]) -> u32
     }
 }
 
-fn reply_frame(words: &mut [u64; 4], answer: ReadFrame) -> u32
-    ensures { λ r. ⌜ reply r (now (words .exit)) ≡ replyOf frame (answerOfReadFrame answer) ⌝ }
+fn reply_frame(payload: &mut [u64; 26], words: &mut [u64; 4], answer: ReadFrame) -> u32
+    ensures { λ r. ⌜ (reply r (now (words .exit)) ≡ replyOf frame (answerOfReadFrame answer)) × (now (payload .exit) ≡ payloadAfter (answerOfReadFrame answer) (now (payload .entry))) ⌝ }
 {
     match answer {
         ReadFrame::Refused(e) => refuse(words, e),
-        ReadFrame::Value(channel, payload, records, next) => {
-            let frame_type = payload.frame_type();
+        ReadFrame::Value(channel, read, records, next) => {
+            *payload = payload_words(read);
+            let frame_type = read.frame_type();
             give_three(
                 words,
                 next.at,
@@ -58,18 +61,20 @@ fn reply_frame(words: &mut [u64; 4], answer: ReadFrame) -> u32
     }
 }
 
-// Type, channel, and how many tape records the frame has; its payload has been read and accepted.
+// Type, channel, and how many tape records the frame has; and what its payload says, as words (crates/payload_words). A refusal
+// leaves the payload's words as they were.
 #[no_mangle]
 pub extern "C" fn amqp_read_frame(
     s: &[u8],
     at: usize,
     tape: &mut [u64],
     used: usize,
+    payload: &mut [u64; 26],
     words: &mut [u64; 4],
 ) -> u32
-    ensures { λ r. ⌜ replyWith r (now (words .exit)) (now (tape .exit)) ≡ replyWithOf frame (readFrame errata (now (s .entry)) at used (now (tape .entry))) ⌝ }
+    ensures { λ r. ⌜ frameReply r (now (words .exit)) (now (tape .exit)) (now (payload .exit)) ≡ frameReplyOf (readFrame errata (now (s .entry)) at used (now (tape .entry))) (now (payload .entry)) ⌝ }
 {
-    reply_frame(words, read_frame(s, Cursor { at }, tape, used))
+    reply_frame(payload, words, read_frame(s, Cursor { at }, tape, used))
 }
 
 fn reply_stop(words: &mut [u64; 4], consumed: usize, frames: usize, refusal: Stop) -> u32
@@ -100,20 +105,23 @@ pub extern "C" fn amqp_walk(
     reply_stop(words, w.consumed, w.frames, refusal)
 }
 
-// A body that is a span of the pool.
+// The frame of a payload that is given as words (crates/payload_words); its strings and its body are spans of the pool.
 #[no_mangle]
-pub extern "C" fn amqp_write_body(
+pub extern "C" fn amqp_write_frame(
     out: &mut [u8],
     at: usize,
     channel: u16,
-    start: usize,
-    len: usize,
+    payload: &[u64; 26],
     pool: &[u8],
     tape: &[u64],
     words: &mut [u64; 4],
 ) -> u32
-    ensures { λ r. ⌜ replyWith r (now (words .exit)) (now (out .exit)) ≡ replyWithOf nothing (writeFrame errata (record { channel = channel; payload = body (record { start = start; len = len }); pool = now (pool .entry); tape = now (tape .entry) }) at (now (out .entry))) ⌝ }
+    ensures { λ r. ⌜ replyWith r (now (words .exit)) (now (out .exit)) ≡ replyWithOf nothing (writeFrom errata channel (now (pool .entry)) (now (tape .entry)) (payloadFrom (now (payload .entry))) at (now (out .entry))) ⌝ }
 {
-    let payload = Payload::Body(Span { start, len });
-    reply_written(words, write_frame(out, at, channel, payload, pool, tape))
+    match payload_from(*payload) {
+        PayloadFrom::Refused(e) => refuse(words, e),
+        PayloadFrom::Value(given) => {
+            reply_written(words, write_frame(out, at, channel, given, pool, tape))
+        }
+    }
 }

@@ -1,6 +1,5 @@
 -- `amqp_ffi::frames::amqp_read_frame` meets its contract. Assumes nothing.
-use Rattle.amqp_ffi.specs.Reply.{frame}
-use Rattle.amqp_ffi.proofs.ReplyLaws.{with-memory}
+use Rattle.amqp_ffi.proofs.ReplyLaws.{with-payload}
 use borrow.Author.Needs.{needs}
 use Rattle.amqp_ffi.proofs.frames.amqp_read_frame.Statement.{statement}
 use Rattle.amqp_ffi.proofs.frames.amqp_read_frame.Tie as tie
@@ -15,7 +14,7 @@ same-length : tie.Need-same-length
 same-length c = search needs
 
 returns : tie.Need-returns
-returns c = with-memory frame (c .reply-frame .ensures) (c .before .before .before .read-frame .ensures)
+returns c = with-payload (c .before .before .before .before .before .before .before .before .before .args .payload .now) (c .reply-frame .ensures .0) (c .reply-frame .ensures .1) (c .before .before .before .read-frame .ensures)
 
 pub amqp-read-frame-spec : {M : Type 1} → statement M
 amqp-read-frame-spec =

@@ -51,7 +51,7 @@ call-of-spec =
     (λ c. search needs) (λ c κs. search needs) (λ c. search needs) (λ c κs. search needs) (λ c. search needs) (λ c. search needs)
     (λ c κs. search needs) (λ c. search needs) (λ c. search needs) (λ c κs. search needs) (λ c. search needs) (λ c. search needs)
     (λ c κs. search needs) (λ c. search needs) (λ c. search needs) (λ c. search needs)
-    (λ c. omega (arith, below (c .before .command21 .given .0 .1 .1 .0)))
+    (λ c. omega (arith, below (c .before .command21 .given .0 .1 .0), below (c .before .command21 .given .0 .1 .1 .0)))
     (λ c. omega (arith, below (c .before .command21 .given .0 .1 .0), below (c .before .command21 .given .0 .1 .1 .0)))
     (λ c κs. search needs) (λ c. search needs) (λ c. search needs) (λ c κs. search needs) (λ c. search needs) (λ c κs. search needs)
     (λ c. arm (c .before .before .command .given .1) (c .two-strings .ensures) refl)

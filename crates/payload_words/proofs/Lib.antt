@@ -1,0 +1,2 @@
+-- Laws of payloads as words.
+pub mod PayloadLaws

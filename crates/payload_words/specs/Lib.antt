@@ -1,0 +1,3 @@
+-- The specification of payloads as words.
+pub mod Words
+pub mod AnswerOf
