@@ -1,9 +1,8 @@
 // A case is answered by the library that has the operation of its first field.
-mod lending;
-mod writing;
-
 ghost use Prim.Native.Nat.{_≤_};
 ghost use lib.ListN.{length};
+use crate::lending;
+use crate::writing;
 use frame_read_cases::decode;
 use frame_read_cases::walk;
 use lines::line;
@@ -59,7 +58,7 @@ fn operation(
 }
 
 // Answers the line that the first `n` octets of `line` are, of up to 32 fields.
-pub fn answer(
+pub(crate) fn answer(
     line: &mut [u8],
     n: usize,
     lent: &mut [u8],
