@@ -1,4 +1,6 @@
-// Cases of the readers of frames: 06 decode, 41 walk, 42 read_frame. The crate `lines` has their form.
+// Cases of the readers of frames: 06 decode, 41 walk, 42 read_frame; and the tape that every reader of a case is lent. The crate
+// `lines` has their form.
 pub mod decode;
-pub mod step;
+pub mod lending;
+mod step;
 pub mod walk;

@@ -1,6 +1,7 @@
 // Cases of the writers of frames: 29 PROTOCOL_HEADER, 32 encode, 43 write_frame; 50, one of the last two into an output of a given
 // size; 52, write_frame of a content header from a tape that repeats its last record. The crate `lines` has their form.
 mod payload;
+pub mod writing;
 
 ghost use Prim.Native.Nat.{_≤_};
 ghost use lib.ListN.{length};
@@ -101,7 +102,7 @@ fn outcome_of_payload(
 }
 
 // 32; and 43: channel, type, and the fields of the payload.
-pub fn outcome(
+pub(crate) fn outcome(
     op: u8,
     octets: &[u8],
     marks: &[usize],
@@ -118,7 +119,7 @@ pub fn outcome(
 }
 
 // 52 of 43: channel, the type of content headers, and what 52 of 31 has behind its operation.
-pub fn outcome_repeated(
+pub(crate) fn outcome_repeated(
     octets: &[u8],
     marks: &[usize],
     space: usize,

@@ -1,10 +1,10 @@
 // A case is answered by the library that has the operation of its first field.
 ghost use Prim.Native.Nat.{_≤_};
 ghost use lib.ListN.{length};
-use crate::lending;
-use crate::writing;
 use frame_read_cases::decode;
+use frame_read_cases::lending;
 use frame_read_cases::walk;
+use frame_write_cases::writing;
 use lines::line;
 use lines::written;
 

@@ -1,8 +1,6 @@
 // Answers cases, one to a line of standard input, by a line each on standard output: the crate `lines` has their form.
 mod answers;
 mod input;
-mod lending;
-mod writing;
 
 use crate::input::is_line;
 use crate::input::next_line;

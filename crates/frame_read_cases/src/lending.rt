@@ -2,7 +2,7 @@
 // one of these but 40 over a tape of a given number of records, whose words are shown. The tape is lent to all of them here.
 ghost use Prim.Native.Nat.{_≤_};
 ghost use lib.ListN.{length};
-use frame_read_cases::step;
+use crate::step;
 use lines::lent;
 use lines::line;
 use method_read_cases::commands;
@@ -47,7 +47,7 @@ fn lend(
 }
 
 // 51: the number of free records, then the case of a reader.
-pub(crate) fn with_room(
+pub fn with_room(
     octets: &[u8],
     marks: &[usize],
     tape: &mut [u64],
@@ -68,7 +68,7 @@ pub(crate) fn with_room(
     }
 }
 
-pub(crate) fn answer(
+pub fn answer(
     op: u8,
     octets: &[u8],
     marks: &[usize],

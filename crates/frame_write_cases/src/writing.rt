@@ -16,7 +16,7 @@ fn outcome_in(
     match op {
         0x30..=0x31 => method_write_cases::outcome(op, octets, marks, space, lent, tape),
         0x33..=0x34 => table_write_cases::outcome(op, octets, marks, space, lent, tape),
-        0x32 | 0x43 => frame_write_cases::outcome(op, octets, marks, space, lent, tape),
+        0x32 | 0x43 => crate::outcome(op, octets, marks, space, lent, tape),
         _ => Outcome::NoCase,
     }
 }
@@ -48,7 +48,7 @@ fn repeated(
     match op {
         0x31 => method_write_cases::outcome_repeated(op, octets, marks, space, lent, tape),
         0x33..=0x34 => table_write_cases::outcome_repeated(op, octets, marks, space, lent, tape),
-        0x43 => frame_write_cases::outcome_repeated(octets, marks, space, lent, tape),
+        0x43 => crate::outcome_repeated(octets, marks, space, lent, tape),
         _ => Outcome::NoCase,
     }
 }
@@ -66,7 +66,7 @@ fn limited(op: u8, octets: &[u8], marks: &[usize], lent: &mut [u8], tape: &mut [
     }
 }
 
-pub(crate) fn outcome(
+pub fn outcome(
     op: u8,
     octets: &[u8],
     marks: &[usize],
