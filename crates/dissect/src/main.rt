@@ -74,10 +74,13 @@ fn header_len(s: &[u8]) -> usize
     i
 }
 
-// The octets from `from` up to `end`, moved to the front.
+// The octets from `from` up to `end`, moved to the front. A large frame that comes in small pieces is not moved for each.
 fn move_to_front(buffer: &mut [u8], from: usize, end: usize)
     requires { ⌜ end ≤ length (now buffer) ⌝ }
 {
+    if from == 0 {
+        return;
+    }
     let mut i = from;
     while i < end {
         buffer[i - from] = buffer[i];

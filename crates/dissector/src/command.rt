@@ -116,8 +116,8 @@ fn argument(
             here,
             names,
             s,
-            span_at(arguments, 0),
-            span_at(arguments, 2),
+            span_at(arguments, j),
+            span_at(arguments, wrapping_add_usize(j, 2)),
         ),
         _ => here,
     }
