@@ -1,7 +1,8 @@
 /* The proved AMQP 0-9-1 codec for C: the functions of crates/amqp_ffi, linked from target/staticlib/libamqp_ffi.a (`rt staticlib amqp_ffi`).
  *
  * Memory. All of it is the caller's; nothing is allocated and nothing is kept. A pointer comes with the number of its elements behind
- * it. What a function writes (out, tape, entries, payload, words) overlaps nothing else that it is given. An empty slice may be NULL.
+ * it. What a function writes (out, tape, entries, payload, words) overlaps nothing else that it is given. A pointer is never NULL, not
+ * even with no elements behind it.
  *
  * Answers. A function returns 0, or the number of a refusal, and fills four words. With 0: the next position in the octets or in the
  * output, then the values named at the function, then 0. With a refusal: its values, then 0; and everything lent but the four words is
