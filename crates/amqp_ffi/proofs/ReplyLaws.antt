@@ -1,12 +1,12 @@
 -- The replies to refusals and of writers.
-use mathlib.Core.Path.{_≡_, refl, ap, _∙_}
+use mathlib.Core.Path.{_≡_, refl, sym, ap, _∙_}
 use mathlib.Core.Option.{some}
 use mathlib.Core.List.{List, [], _∷_, _++_}
 use Prim.Native.Nat.{ℕ, _<_}
 use native.Mathlib.Omega.{arith}
-use lib.ListN.{take}
+use lib.ListN.{take, getD}
 use lib.Seq.{take-take}
-use Rattle.types.specs.Answer.{Answer}
+use Rattle.types.specs.Answer.{Answer, given, refused}
 use Rattle.types.specs.AnswerOf.{refusal, numbered}
 use Rattle.types.specs.Memory.{Outcome, outcome}
 use Rattle.types.specs.declared.Numbered.{Numbered}
@@ -15,11 +15,23 @@ use Rattle.types.specs.declared.WireError.the-variants.{Truncated, ShortStrTooL
 use Rattle.types.specs.declared.Span.{Span}
 use Rattle.tables.specs.Tape.{WithCount}
 use Rattle.method.specs.Fields.{Returned}
-use Rattle.frame.specs.Step.{FrameOf}
+use Rattle.method.specs.Properties.{Header, header, class, bodySize}
+use Rattle.method_words.specs.Words.{headerWords}
+use Rattle.method_words.specs.InWords.{WordsOutcome, wordsOutcome, inWords}
+use Rattle.method_words.specs.declared.HeaderWords.{HeaderWords}
+use Rattle.method_reader.specs.AnswerOf.{answerOfHeaderWords}
+use Rattle.method_reader.specs.declared.ReadHeaderWords.{ReadHeaderWords}
+use Rattle.payload_words.specs.Words.{payloadWords}
+use Rattle.frame.specs.Step as payload
+use Rattle.frame.specs.Step.{Payload, command, body, heartbeat, FrameOf}
 use Rattle.frame.specs.Walk.{WalkOutcome}
-use Rattle.frame_reader.specs.AnswerOf.{stopRefusal, walkOutcomeOf}
+use Rattle.frame.specs.Writing.{typeOf}
+use Rattle.frame_reader.specs.Words.{FrameWords, frameWords}
+use Rattle.frame_reader.specs.AnswerOf.{answerOfFrameWords, stopRefusal, walkOutcomeOf}
+use Rattle.frame_reader.specs.declared.ReadFrameWords.{ReadFrameWords}
 use Rattle.frame_reader.specs.declared.Walked.{Walked}
-use Rattle.amqp_ffi.specs.Reply.{Reply, reply, refusalReply, replyOf, replyWithOf, stopReply, walkReplyOf, frame, payloadAfter, frameReplyOf}
+use Rattle.amqp_ffi.specs.Reply.{Reply, reply, refusalReply, replyOf, ReplyWith, replyWithOf, stopReply, walkReplyOf, FrameReply, frameReplyOf}
+use Rattle.amqp_ffi.specs.Reply.{header as headerReply}
 
 abbrev bare : Numbered → Reply
 bare n = reply (n .number) (0 ∷ 0 ∷ 0 ∷ 0 ∷ [])
@@ -71,10 +83,55 @@ pub with-memories : (w : Walked) {p : Reply} {tape register : List ℕ} {o : Wal
     → record { answer = p; tape = tape; register = register } ≡ walkReplyOf o
 with-memories w {tape = tape} {register = register} e q = ap (λ (p : Reply). record { answer = p; tape = tape; register = register }) e ∙ ap walkReplyOf q
 
--- and with the tape and the payload's words
-pub with-payload : {p : Reply} {a : Answer (WithCount (FrameOf Returned Span))} {tape payload : List ℕ} {o : Outcome (WithCount (FrameOf Returned Span))} (before : List ℕ)
-    → p ≡ replyOf frame a → payload ≡ payloadAfter a before → outcome a tape ≡ o → record { answer = p; tape = tape; payload = payload } ≡ frameReplyOf o before
-with-payload {a = a} {tape = tape} {payload = payload} before e f w =
-    ap (λ (q : Reply). record { answer = q; tape = tape; payload = payload }) e
-    ∙ ap (λ (ws : List ℕ). record { answer = replyOf frame a; tape = tape; payload = ws }) f
-    ∙ ap (λ (x : Outcome (WithCount (FrameOf Returned Span))). frameReplyOf x before) w
+-- From a reader in words
+
+-- a content header: class, body size, and how many records its headers have
+abbrev start : WithCount HeaderWords → List ℕ
+start w = w .value .class ∷ w .value .«body_size» ∷ w .count ∷ []
+
+abbrev startReply : WordsOutcome HeaderWords → ReplyWith
+startReply (wordsOutcome a w t) = record { answer = replyOf start a; memory = t }
+
+same-start : (h : Header Returned) (k next : ℕ)
+    → reply 0 (next ∷ headerWords h .class ∷ headerWords h .«body_size» ∷ k ∷ []) ≡ reply 0 (next ∷ class h ∷ bodySize h ∷ k ∷ [])
+same-start (header c n present vs) k next = refl
+
+pub header-in-words : {r : ReadHeaderWords} (k : ReadHeaderWords) (lent : List ℕ) (o : Outcome (WithCount (Header Returned))) {w t : List ℕ} {p : Reply}
+    → p ≡ replyOf start (answerOfHeaderWords k w) → r ≡ k → wordsOutcome (answerOfHeaderWords r w) w t ≡ inWords headerWords (λ x. x .words) lent o
+    → record { answer = p; memory = t } ≡ replyWithOf headerReply o
+header-in-words k lent o {w = w} {t = t} e q h =
+    ap (λ (x : Reply). record { answer = x; memory = t }) e
+    ∙ ap (λ (x : ReadHeaderWords). startReply (wordsOutcome (answerOfHeaderWords x w) w t)) (sym q)
+    ∙ ap startReply h
+    ∙ go o
+  where
+    go : (o : Outcome (WithCount (Header Returned))) → startReply (inWords headerWords (λ x. x .words) lent o) ≡ replyWithOf headerReply o
+    go (outcome (given x n) m) = ap (λ (r : Reply). record { answer = r; memory = m }) (same-start (x .value) (x .count) n)
+    go (outcome (refused e) m) = refl
+
+-- a frame: its type is the first of its payload's words
+abbrev inFrame : WithCount FrameWords → List ℕ
+inFrame w = getD (w .value .payload) 0 0 ∷ w .value .channel ∷ w .count ∷ []
+
+abbrev wordsReply : WordsOutcome FrameWords → FrameReply
+wordsReply (wordsOutcome a w t) = record { answer = replyOf inFrame a; tape = t; payload = w }
+
+first-word : (x : Payload Returned Span) → getD (payloadWords x) 0 0 ≡ typeOf x
+first-word (command x) = refl
+first-word (payload.header x) = refl
+first-word (body v) = refl
+first-word heartbeat = refl
+
+pub frame-in-words : {r : ReadFrameWords} (k : ReadFrameWords) (before : List ℕ) (o : Outcome (WithCount (FrameOf Returned Span))) {w t : List ℕ} {p : Reply}
+    → p ≡ replyOf inFrame (answerOfFrameWords k w) → r ≡ k → wordsOutcome (answerOfFrameWords r w) w t ≡ inWords frameWords (λ x. x .payload) before o
+    → record { answer = p; tape = t; payload = w } ≡ frameReplyOf o before
+frame-in-words k before o {w = w} {t = t} e q h =
+    ap (λ (x : Reply). record { answer = x; tape = t; payload = w }) e
+    ∙ ap (λ (x : ReadFrameWords). wordsReply (wordsOutcome (answerOfFrameWords x w) w t)) (sym q)
+    ∙ ap wordsReply h
+    ∙ go o
+  where
+    go : (o : Outcome (WithCount (FrameOf Returned Span))) → wordsReply (inWords frameWords (λ x. x .payload) before o) ≡ frameReplyOf o before
+    go (outcome (given x n) m) =
+        ap (λ (f : ℕ). record { answer = reply 0 (n ∷ f ∷ x .value .channel ∷ x .count ∷ []); tape = m; payload = payloadWords (x .value .payload) }) (first-word (x .value .payload))
+    go (outcome (refused e) m) = refl

@@ -1,4 +1,3 @@
 -- What the exported functions answer.
 pub mod Reply
-pub mod Methods
 pub mod Frames

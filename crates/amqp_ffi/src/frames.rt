@@ -5,21 +5,20 @@ ghost use Rattle.frame.specs.Frame.{decodeAt};
 ghost use Rattle.frame.specs.Step.{readFrame};
 ghost use Rattle.frame.specs.Walk.{walk};
 ghost use Rattle.payload_words.specs.Words.{payloadFrom};
-ghost use Rattle.frame_reader.specs.AnswerOf.{answerOfReadFrame, stopRefusal};
-ghost use Rattle.amqp_ffi.specs.Reply.{reply, replyOf, replyWith, replyWithOf, walkReply, walkReplyOf, stopReply, frameReply, frameReplyOf, payloadAfter, decoded, frame, nothing};
+ghost use Rattle.frame_reader.specs.AnswerOf.{stopRefusal};
+ghost use Rattle.amqp_ffi.specs.Reply.{reply, replyOf, replyWith, replyWithOf, walkReply, walkReplyOf, stopReply, frameReply, frameReplyOf, decoded, nothing};
 ghost use Rattle.amqp_ffi.specs.Frames.{writeFrom};
 use crate::reply::give_three;
 use crate::reply::refuse;
 use crate::reply::reply_written;
 use frame_reader::Decoded;
-use frame_reader::ReadFrame;
+use frame_reader::ReadFrameWords;
 use frame_reader::Stop;
 use frame_reader::decode::decode;
-use frame_reader::step::read_frame;
+use frame_reader::words::read_frame_words;
 use frame_writer::write::write_frame;
 use payload_words::PayloadFrom;
 use payload_words::payload_from;
-use payload_words::payload_words;
 use types::Cursor;
 
 // Type, channel, and the length of the payload, which begins behind the first seven octets.
@@ -42,25 +41,6 @@ pub extern "C" fn amqp_decode(s: &[u8], at: usize, words: &mut [u64; 4]) -> u32
     }
 }
 
-fn reply_frame(payload: &mut [u64; 26], words: &mut [u64; 4], answer: ReadFrame) -> u32
-    ensures { λ r. ⌜ (reply r (now (words .exit)) ≡ replyOf frame (answerOfReadFrame answer)) × (now (payload .exit) ≡ payloadAfter (answerOfReadFrame answer) (now (payload .entry))) ⌝ }
-{
-    match answer {
-        ReadFrame::Refused(e) => refuse(words, e),
-        ReadFrame::Value(channel, read, records, next) => {
-            *payload = payload_words(read);
-            let frame_type = read.frame_type();
-            give_three(
-                words,
-                next.at,
-                frame_type.octet() as u64,
-                channel as u64,
-                records as u64,
-            )
-        }
-    }
-}
-
 // Type, channel, and how many tape records the frame has; and what its payload says, as words (crates/payload_words). A refusal
 // leaves the payload's words as they were.
 #[no_mangle]
@@ -74,7 +54,12 @@ pub extern "C" fn amqp_read_frame(
 ) -> u32
     ensures { λ r. ⌜ frameReply r (now (words .exit)) (now (tape .exit)) (now (payload .exit)) ≡ frameReplyOf (readFrame errata (now (s .entry)) at used (now (tape .entry))) (now (payload .entry)) ⌝ }
 {
-    reply_frame(payload, words, read_frame(s, Cursor { at }, tape, used))
+    match read_frame_words(s, Cursor { at }, tape, used, payload) {
+        ReadFrameWords::Refused(e) => refuse(words, e),
+        ReadFrameWords::Value(channel, records, next) => {
+            give_three(words, next.at, payload[0], channel as u64, records as u64)
+        }
+    }
 }
 
 fn reply_stop(words: &mut [u64; 4], consumed: usize, frames: usize, refusal: Stop) -> u32

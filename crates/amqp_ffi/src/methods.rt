@@ -2,30 +2,16 @@
 ghost use mathlib.Core.Path.{_≡_};
 ghost use Rattle.tables.specs.Letters.{errata};
 ghost use Rattle.method.specs.Reading.{readHeader};
-ghost use Rattle.method_reader.specs.AnswerOf.{answerOfHeader};
-ghost use Rattle.amqp_ffi.specs.Reply.{reply, replyOf, replyWith, replyWithOf, header, nothing};
-ghost use Rattle.amqp_ffi.specs.Methods.{writeKnown};
+ghost use Rattle.method_writer.specs.Calls.{writeCall};
+ghost use Rattle.amqp_ffi.specs.Reply.{replyWith, replyWithOf, header, nothing};
 use crate::reply::give_three;
 use crate::reply::refuse;
 use crate::reply::reply_written;
-use method_reader::ReadContentHeader;
-use method_reader::headers::read_content_header;
-use method_words::KnownCommand;
-use method_words::commands::known_command;
-use method_writer::commands::write_command;
+use method_reader::ReadHeaderWords;
+use method_reader::headers::read_header_words;
+use method_words::Call;
+use method_writer::commands::write_call;
 use types::Cursor;
-use types::WireError;
-
-fn reply_header(words: &mut [u64; 4], answer: ReadContentHeader) -> u32
-    ensures { λ r. ⌜ reply r (now (words .exit)) ≡ replyOf header (answerOfHeader answer) ⌝ }
-{
-    match answer {
-        ReadContentHeader::Value(h, records, next) => {
-            give_three(words, next.at, h.class as u64, h.body_size, records as u64)
-        }
-        ReadContentHeader::Refused(e) => refuse(words, e),
-    }
-}
 
 // Class, body size, and how many tape records its headers have.
 #[no_mangle]
@@ -38,7 +24,13 @@ pub extern "C" fn amqp_content_header(
 ) -> u32
     ensures { λ r. ⌜ replyWith r (now (words .exit)) (now (tape .exit)) ≡ replyWithOf header (readHeader errata (now (s .entry)) at used (now (tape .entry))) ⌝ }
 {
-    reply_header(words, read_content_header(s, Cursor { at }, tape, used))
+    let mut properties = [0u64; 22];
+    match read_header_words(s, Cursor { at }, tape, used, &mut properties) {
+        ReadHeaderWords::Refused(e) => refuse(words, e),
+        ReadHeaderWords::Value(class, body_size, _, records, next) => {
+            give_three(words, next.at, class as u64, body_size, records as u64)
+        }
+    }
 }
 
 // The command of a class and method, from the words of its arguments (specs/Words.antt of method).
@@ -53,12 +45,12 @@ pub extern "C" fn amqp_write_command(
     tape: &[u64],
     words: &mut [u64; 4],
 ) -> u32
-    ensures { λ r. ⌜ replyWith r (now (words .exit)) (now (out .exit)) ≡ replyWithOf nothing (writeKnown errata (now (pool .entry)) (now (tape .entry)) class method (now (arguments .entry)) at (now (out .entry))) ⌝ }
+    ensures { λ r. ⌜ replyWith r (now (words .exit)) (now (out .exit)) ≡ replyWithOf nothing (writeCall errata (now (pool .entry)) (now (tape .entry)) (record { class = class; method = method; words = now (arguments .entry) }) at (now (out .entry))) ⌝ }
 {
-    match known_command(class, method, *arguments) {
-        KnownCommand::Unknown => refuse(words, WireError::UnknownMethod(class, method)),
-        KnownCommand::Known(command) => {
-            reply_written(words, write_command(out, at, command, pool, tape))
-        }
-    }
+    let call = Call {
+        class,
+        method,
+        words: *arguments,
+    };
+    reply_written(words, write_call(out, at, call, pool, tape))
 }

@@ -2,161 +2,128 @@
 ghost use Prim.Native.Nat.{_≤_};
 ghost use lib.ListN.{length};
 use crate::method_name::method_name;
-use crate::method_name::next_word;
-use crate::method_name::word;
 use crate::method_name::words_of;
-use method::Command;
+use crate::row::label;
+use crate::row::next_word;
+use crate::words::pair_at;
+use crate::words::word_at;
 use method::layout::Layout;
 use method::layout::layout_of;
 use method::layout::width_of;
-use method_words::calls::call_of;
 use std::num::wrapping_add_usize;
 use text::number;
 use text::string;
 use types::Span;
 
 // The place in the output, and where the name of the next argument begins.
-struct Shown {
-    at: usize,
-    label: usize,
+pub(crate) struct Shown {
+    pub at: usize,
+    pub label: usize,
 }
 
-// The words of the arguments; past the last they are 0.
-fn word_at(arguments: &[u64], j: usize) -> u64 {
-    if j < arguments.len() { arguments[j] } else { 0 }
+// How many arguments a field is: fixed octets are none, and a bit octet of two bits and a login are two.
+fn arguments_in(field: u8) -> usize {
+    if field == 0xB3 || field == 0xD0 {
+        return 2;
+    }
+    if width_of(field) == 0 { 0 } else { 1 }
 }
 
-fn span_at(arguments: &[u64], j: usize) -> Span {
-    let start = word_at(arguments, j) as usize;
-    if j < arguments.len() {
+// The second argument of a field: the next bit of an octet, or the string behind the first.
+fn second(words: &[u64], j: usize, field: u8) -> Span {
+    if field == 0xB3 {
         return Span {
-            start,
-            len: word_at(arguments, j + 1) as usize,
+            start: pair_at(words, j).start / 2,
+            len: 0,
         };
     }
-    Span { start, len: 0 }
+    pair_at(words, wrapping_add_usize(j, 2))
 }
 
-fn label(out: &mut [u8], at: usize, names: &[u8], from: usize) -> usize
+// A number, a bit or a string; the first two are one word, the start.
+pub(crate) fn value(out: &mut [u8], at: usize, s: &[u8], field: u8, v: Span) -> usize
     ensures { λ r. ⌜ r ≤ length (now (out .entry)) ⌝ }
 {
-    let next = print::put(out, at, b' ');
-    let end = word(out, next, names, from);
-    print::put(out, end, b'=')
-}
-
-fn number(out: &mut [u8], here: Shown, names: &[u8], n: u64) -> Shown
-    ensures { λ r. ⌜ r .at ≤ length (now (out .entry)) ⌝ }
-{
-    let next = label(out, here.at, names, here.label);
-    Shown {
-        at: print::decimal(out, next, n),
-        label: next_word(names, here.label),
+    match field / 16 {
+        0x0 => print::decimal(out, at, v.start as u64),
+        0xB => number::flag(out, at, v.start % 2 == 1),
+        _ => string::span(out, at, s, v, true),
     }
 }
 
-fn text(out: &mut [u8], here: Shown, names: &[u8], s: &[u8], v: Span) -> Shown
-    ensures { λ r. ⌜ r .at ≤ length (now (out .entry)) ⌝ }
-{
-    let next = label(out, here.at, names, here.label);
-    Shown {
-        at: string::span(out, next, s, v, true),
-        label: next_word(names, here.label),
-    }
-}
-
-fn flag(out: &mut [u8], here: Shown, names: &[u8], b: bool) -> Shown
-    ensures { λ r. ⌜ r .at ≤ length (now (out .entry)) ⌝ }
-{
-    let next = label(out, here.at, names, here.label);
-    Shown {
-        at: number::flag(out, next, b),
-        label: next_word(names, here.label),
-    }
-}
-
-// A bit octet has one flag or two.
-fn flags(out: &mut [u8], here: Shown, names: &[u8], field: u8, bits: u64) -> Shown
-    ensures { λ r. ⌜ r .at ≤ length (now (out .entry)) ⌝ }
-{
-    let next = flag(out, here, names, bits % 2 == 1);
-    if field % 16 == 3 {
-        return flag(out, next, names, bits / 2 % 2 == 1);
-    }
-    next
-}
-
-// User and password.
-fn login(out: &mut [u8], here: Shown, names: &[u8], s: &[u8], user: Span, password: Span) -> Shown
-    ensures { λ r. ⌜ r .at ≤ length (now (out .entry)) ⌝ }
-{
-    let next = text(out, here, names, s, user);
-    text(out, next, names, s, password)
-}
-
-// One field, by its kind; a fixed one has no argument.
-fn argument(
+pub(crate) fn argument(
     out: &mut [u8],
     here: Shown,
     names: &[u8],
     s: &[u8],
     field: u8,
-    arguments: &[u64],
+    v: Span,
+) -> Shown
+    ensures { λ r. ⌜ r .at ≤ length (now (out .entry)) ⌝ }
+{
+    let next = label(out, here.at, names, here.label);
+    Shown {
+        at: value(out, next, s, field, v),
+        label: next_word(names, here.label),
+    }
+}
+
+fn arguments_of_field(
+    out: &mut [u8],
+    here: Shown,
+    names: &[u8],
+    s: &[u8],
+    field: u8,
+    words: &[u64],
     j: usize,
 ) -> Shown
     requires { ⌜ here .at ≤ length (now out) ⌝ }
     ensures { λ r. ⌜ r .at ≤ length (now (out .entry)) ⌝ }
 {
-    match field / 16 {
-        0x0 => number(out, here, names, word_at(arguments, j)),
-        0x5 => text(out, here, names, s, span_at(arguments, j)),
-        0xB => flags(out, here, names, field, word_at(arguments, j)),
-        0xD => login(
-            out,
-            here,
-            names,
-            s,
-            span_at(arguments, j),
-            span_at(arguments, wrapping_add_usize(j, 2)),
-        ),
-        _ => here,
+    let count = arguments_in(field);
+    if count == 0 {
+        return here;
     }
+    let first = argument(out, here, names, s, field, pair_at(words, j));
+    if count == 1 {
+        return first;
+    }
+    argument(out, first, names, s, field, second(words, j, field))
 }
 
-fn arguments_of(
+fn arguments(
     out: &mut [u8],
-    at: usize,
+    begin: Shown,
     names: &[u8],
     s: &[u8],
     layout: Layout,
-    arguments: &[u64],
-    labels: usize,
+    words: &[u64],
 ) -> usize
+    requires { ⌜ begin .at ≤ length (now out) ⌝ }
     ensures { λ r. ⌜ r ≤ length (now (out .entry)) ⌝ }
 {
     let fields = layout.fields;
-    let mut here = Shown {
-        at: print::inside(out, at),
-        label: labels,
-    };
-    let mut j = 0;
+    let mut here = begin;
+    let mut j = 3;
     let mut i = 0;
     while i < fields.len() && i < layout.count {
         let field = fields[i];
-        here = argument(out, here, names, s, field, arguments, j);
+        here = arguments_of_field(out, here, names, s, field, words, j);
         j = wrapping_add_usize(j, width_of(field));
         i += 1;
     }
     here.at
 }
 
-pub fn command(out: &mut [u8], at: usize, names: &[u8], s: &[u8], c: Command) -> usize
+// A payload's words: class and method are the second and third, and the arguments stand behind them.
+pub(crate) fn command(out: &mut [u8], at: usize, names: &[u8], s: &[u8], words: &[u64]) -> usize
     ensures { λ r. ⌜ r ≤ length (now (out .entry)) ⌝ }
 {
-    let call = call_of(c);
-    let arguments = call.words;
-    let layout = layout_of(call.class, call.method);
-    let labels = next_word(names, next_word(names, words_of(call.class, call.method)));
-    let next = method_name(out, at, names, call.class, call.method);
-    arguments_of(out, next, names, s, layout, &arguments, labels)
+    let class = (word_at(words, 1) % 0x1_0000) as u16;
+    let method = (word_at(words, 2) % 0x1_0000) as u16;
+    let begin = Shown {
+        at: method_name(out, at, names, class, method),
+        label: next_word(names, words_of(class, method)),
+    };
+    arguments(out, begin, names, s, layout_of(class, method), words)
 }

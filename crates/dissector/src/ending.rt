@@ -2,6 +2,7 @@
 ghost use Prim.Native.Nat.{_≤_};
 ghost use lib.ListN.{length};
 use crate::refusal;
+use crate::row::labeled;
 use types::WireError;
 
 pub fn protocol_header(out: &mut [u8], at: usize) -> usize
@@ -15,8 +16,7 @@ pub fn refused(out: &mut [u8], at: usize, base: u64, e: WireError) -> usize
     ensures { λ r. ⌜ r ≤ length (now (out .entry)) ⌝ }
 {
     let place = print::decimal(out, at, base);
-    let next = print::put(out, place, b' ');
-    let end = refusal::refused(out, next, e, base);
+    let end = refusal::refused(out, place, e, base);
     print::put(out, end, b'\n')
 }
 
@@ -25,36 +25,35 @@ pub fn too_large(out: &mut [u8], at: usize, base: u64, buffer: usize) -> usize
     ensures { λ r. ⌜ r ≤ length (now (out .entry)) ⌝ }
 {
     let place = print::decimal(out, at, base);
-    let next = print::text(out, place, b" a frame is larger than the buffer of ");
-    let end = print::decimal(out, next, buffer as u64);
+    let end = labeled(
+        out,
+        place,
+        b" a frame is larger than the buffer of ",
+        buffer as u64,
+    );
     print::text(out, end, b" octets\n")
 }
 
 fn left(out: &mut [u8], at: usize, base: u64, held: usize) -> usize
     ensures { λ r. ⌜ r ≤ length (now (out .entry)) ⌝ }
 {
-    let word = print::text(out, at, b", Truncated at ");
-    let place = print::decimal(out, word, base);
-    let next = print::text(out, place, b": ");
-    let count = print::decimal(out, next, held as u64);
+    let place = labeled(out, at, b", Truncated at ", base);
+    let count = labeled(out, place, b": ", held as u64);
     print::text(out, count, b" octets of a frame\n")
 }
 
 fn stopped_at(out: &mut [u8], at: usize, base: u64) -> usize
     ensures { λ r. ⌜ r ≤ length (now (out .entry)) ⌝ }
 {
-    let word = print::text(out, at, b", stopped at ");
-    let place = print::decimal(out, word, base);
+    let place = labeled(out, at, b", stopped at ", base);
     print::put(out, place, b'\n')
 }
 
 fn counts(out: &mut [u8], at: usize, frames: u64, octets: u64) -> usize
     ensures { λ r. ⌜ r ≤ length (now (out .entry)) ⌝ }
 {
-    let label = print::text(out, at, b"end: ");
-    let count = print::decimal(out, label, frames);
-    let next = print::text(out, count, b" frames, ");
-    let end = print::decimal(out, next, octets);
+    let count = labeled(out, at, b"end: ", frames);
+    let end = labeled(out, count, b" frames, ", octets);
     print::text(out, end, b" octets")
 }
 

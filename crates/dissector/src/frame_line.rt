@@ -1,22 +1,26 @@
 // Frames, a line each.
 ghost use Prim.Native.Nat.{_≤_};
 ghost use lib.ListN.{length};
-use crate::command;
-use crate::header;
+use crate::command::command;
+use crate::header::header;
 use crate::method_name::method_name;
-use crate::refusal;
+use crate::refusal::refused;
+use crate::reply::reply;
+use crate::row::labeled;
+use crate::row::word;
+use crate::words::word_at;
 use frame::Frame;
 use frame::FrameType;
-use frame::Payload;
 use frame_reader::Decoded;
-use frame_reader::ReadFrame;
+use frame_reader::ReadFrameWords;
 use frame_reader::Stop;
 use frame_reader::decode::decode;
-use frame_reader::step::read_frame;
+use frame_reader::words::read_frame_words;
+use std::num::wrapping_add_u64;
+use std::num::wrapping_add_usize;
 use types::Cursor;
 use types::ReadU16;
 use types::Span;
-use types::WireError;
 
 // How many frames were shown, their octets, what stands behind them, and the place in the output.
 pub struct Dissected {
@@ -26,94 +30,81 @@ pub struct Dissected {
     pub next: usize,
 }
 
-fn place(out: &mut [u8], at: usize, base: u64, first: usize) -> usize
-    ensures { λ r. ⌜ r ≤ length (now (out .entry)) ⌝ }
-{
-    let end = print::decimal(out, at, std::num::wrapping_add_u64(base, first as u64));
-    print::put(out, end, b' ')
+// The words of a payload, or why it was refused.
+struct Words {
+    words: [u64; 26],
+    refusal: Stop,
 }
 
-fn channel(out: &mut [u8], at: usize, n: u16) -> usize
-    ensures { λ r. ⌜ r ≤ length (now (out .entry)) ⌝ }
-{
-    let label = print::text(out, at, b"channel=");
-    let end = print::decimal(out, label, n as u64);
-    print::put(out, end, b' ')
-}
-
-fn body(out: &mut [u8], at: usize, octets: usize) -> usize
-    ensures { λ r. ⌜ r ≤ length (now (out .entry)) ⌝ }
-{
-    let label = print::text(out, at, b"body size=");
-    print::decimal(out, label, octets as u64)
-}
-
-fn payload(out: &mut [u8], at: usize, names: &[u8], s: &[u8], tape: &[u64], p: Payload) -> usize
-    ensures { λ r. ⌜ r ≤ length (now (out .entry)) ⌝ }
-{
-    match p {
-        Payload::Command(c) => {
-            let next = print::text(out, at, b"method ");
-            command::command(out, next, names, s, c)
-        }
-        Payload::Header(h) => {
-            let next = print::text(out, at, b"header ");
-            header::header(out, next, s, tape, h)
-        }
-        Payload::Body(v) => body(out, at, v.len),
-        Payload::Heartbeat => print::text(out, at, b"heartbeat"),
-    }
-}
-
-// The class of a content header that was refused, as far as it has one.
-fn class(out: &mut [u8], at: usize, s: &[u8], payload: Span) -> usize
-    ensures { λ r. ⌜ r ≤ length (now (out .entry)) ⌝ }
-{
-    let next = print::text(out, at, b"header ");
-    if payload.len < 2 {
-        return next;
-    }
-    match (Cursor { at: payload.start }).u16(s) {
-        ReadU16::Refused(_) => next,
-        ReadU16::Value(class, _) => {
-            let label = print::text(out, next, b"class=");
-            let end = print::decimal(out, label, class as u64);
-            print::put(out, end, b' ')
-        }
-    }
-}
-
-// The class and method of a command that was refused, as far as it has them.
-fn class_and_method(out: &mut [u8], at: usize, names: &[u8], s: &[u8], payload: Span) -> usize
-    ensures { λ r. ⌜ r ≤ length (now (out .entry)) ⌝ }
-{
-    let next = print::text(out, at, b"method ");
-    if payload.len < 4 {
-        return next;
-    }
-    match (Cursor { at: payload.start }).u16(s) {
-        ReadU16::Refused(_) => next,
-        ReadU16::Value(class, after) => match after.u16(s) {
-            ReadU16::Refused(_) => next,
-            ReadU16::Value(method, _) => {
-                let end = method_name(out, next, names, class, method);
-                print::put(out, end, b' ')
-            }
+fn read(s: &[u8], first: usize, tape: &mut [u64]) -> Words {
+    let mut words = [0u64; 26];
+    match read_frame_words(s, Cursor { at: first }, tape, 0, &mut words) {
+        ReadFrameWords::Value(_, _, _) => Words {
+            words,
+            refusal: Stop::None,
+        },
+        ReadFrameWords::Refused(e) => Words {
+            words,
+            refusal: Stop::Refused(e),
         },
     }
 }
 
-// What can be said of a frame whose payload was refused.
-fn refused_kind(out: &mut [u8], at: usize, names: &[u8], s: &[u8], f: Frame) -> usize
+fn payload(out: &mut [u8], at: usize, names: &[u8], s: &[u8], tape: &[u64], words: &[u64]) -> usize
+    requires { ⌜ at ≤ length (now out) ⌝ }
     ensures { λ r. ⌜ r ≤ length (now (out .entry)) ⌝ }
 {
+    match word_at(words, 0) {
+        1 => command(out, at, names, s, words),
+        2 => header(out, at, s, tape, words),
+        3 => labeled(out, at, b" size=", word_at(words, 2)),
+        _ => at,
+    }
+}
+
+// A number of two octets, or 0 where there is none.
+fn u16_at(s: &[u8], at: usize) -> u16 {
+    match (Cursor { at }).u16(s) {
+        ReadU16::Refused(_) => 0,
+        ReadU16::Value(n, _) => n,
+    }
+}
+
+// How much is told of a payload that was refused: of a command class and method, of a content header the class, where it has them.
+fn numbers_in(f: Frame) -> usize {
     let frame_type = f.frame_type;
-    let payload = f.payload;
+    let len = f.payload.len;
     match frame_type {
-        FrameType::Method => class_and_method(out, at, names, s, payload),
-        FrameType::Header => class(out, at, s, payload),
-        FrameType::Body => print::text(out, at, b"body "),
-        FrameType::Heartbeat => print::text(out, at, b"heartbeat "),
+        FrameType::Method => if len < 4 { 0 } else { 2 },
+        FrameType::Header => if len < 2 { 0 } else { 1 },
+        _ => 0,
+    }
+}
+
+// Class and method of a command that was refused; of a reply also what its reader takes.
+fn method_of(out: &mut [u8], at: usize, names: &[u8], s: &[u8], v: Span) -> usize
+    ensures { λ r. ⌜ r ≤ length (now (out .entry)) ⌝ }
+{
+    let start = v.start;
+    let end = wrapping_add_usize(start, v.len);
+    let class = u16_at(s, start);
+    let method = u16_at(s, wrapping_add_usize(start, 2));
+    let next = method_name(out, at, names, class, method);
+    if s.len() < end {
+        return next;
+    }
+    reply(out, next, names, &s[0..end], start, class, method)
+}
+
+fn class_of(out: &mut [u8], at: usize, names: &[u8], s: &[u8], f: Frame) -> usize
+    requires { ⌜ at ≤ length (now out) ⌝ }
+    ensures { λ r. ⌜ r ≤ length (now (out .entry)) ⌝ }
+{
+    let span = f.payload;
+    match numbers_in(f) {
+        0 => at,
+        1 => labeled(out, at, b" class=", u16_at(s, span.start) as u64),
+        _ => method_of(out, at, names, s, span),
     }
 }
 
@@ -128,15 +119,42 @@ fn payload_at(
     f: Frame,
     tape: &mut [u64],
 ) -> usize
+    requires { ⌜ at ≤ length (now out) ⌝ }
     ensures { λ r. ⌜ r ≤ length (now (out .entry)) ⌝ }
 {
-    match read_frame(s, Cursor { at: first }, tape, 0) {
-        ReadFrame::Value(_, p, _, _) => payload(out, at, names, s, tape, p),
-        ReadFrame::Refused(e) => {
-            let kind = refused_kind(out, at, names, s, f);
-            refusal::refused(out, kind, e, base)
+    let read = read(s, first, tape);
+    let words = read.words;
+    let refusal = read.refusal;
+    match refusal {
+        Stop::None => payload(out, at, names, s, tape, &words),
+        Stop::Refused(e) => {
+            let class = class_of(out, at, names, s, f);
+            refused(out, class, e, base)
         }
     }
+}
+
+// Where the name of a frame's type stands in KINDS.
+fn kind_of(f: Frame) -> usize {
+    let frame_type = f.frame_type;
+    match frame_type {
+        FrameType::Method => 0,
+        FrameType::Header => 7,
+        FrameType::Body => 14,
+        FrameType::Heartbeat => 19,
+    }
+}
+
+const KINDS: [u8; 28] = *b"method header body heartbeat";
+
+// The place of a frame, its channel and its type.
+fn beginning(out: &mut [u8], at: usize, place: u64, f: Frame) -> usize
+    ensures { λ r. ⌜ r ≤ length (now (out .entry)) ⌝ }
+{
+    let start = print::decimal(out, at, place);
+    let channel = labeled(out, start, b" channel=", f.channel as u64);
+    let next = print::put(out, channel, b' ');
+    word(out, next, &KINDS, kind_of(f))
 }
 
 // The line of a frame that was decoded at `first`; the first octet of `s` stands at `base` of the input.
@@ -152,8 +170,7 @@ fn line(
 ) -> usize
     ensures { λ r. ⌜ r ≤ length (now (out .entry)) ⌝ }
 {
-    let start = place(out, at, base, first);
-    let next = channel(out, start, f.channel);
+    let next = beginning(out, at, wrapping_add_u64(base, first as u64), f);
     let end = payload_at(out, next, names, base, s, first, f, tape);
     print::put(out, end, b'\n')
 }

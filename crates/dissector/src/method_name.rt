@@ -1,78 +1,79 @@
-// The commands of 0-9-1, and those that RabbitMQ adds to it: number, name, and for those that the command reader takes the names of
-// their arguments.
+// The commands of 0-9-1, and those that RabbitMQ adds to it: name, and of those that the command reader or a reply reader takes the
+// names of their arguments.
 ghost use mathlib.Core.Path.{_≡_};
 ghost use Prim.Native.Nat.{_≤_};
 ghost use lib.ListN.{length};
-use crate::row::word_end;
+use crate::row::labeled;
+use crate::row::word;
 
-const WIDTH: usize = 60;
+const WIDTH: usize = 52;
 
 // A row of WIDTH octets for each command, the rest of it spaces.
-const COMMANDS: [u8; 3840] = *b"\
-    10.10 connection.start                                      \
-    10.11 connection.start-ok user password                     \
-    10.20 connection.secure                                     \
-    10.21 connection.secure-ok                                  \
-    10.30 connection.tune                                       \
-    10.31 connection.tune-ok channel-max frame-max heartbeat    \
-    10.40 connection.open virtual-host                          \
-    10.41 connection.open-ok                                    \
-    10.50 connection.close                                      \
-    10.51 connection.close-ok                                   \
-    10.60 connection.blocked                                    \
-    10.61 connection.unblocked                                  \
-    10.70 connection.update-secret                              \
-    10.71 connection.update-secret-ok                           \
-    20.10 channel.open                                          \
-    20.11 channel.open-ok                                       \
-    20.20 channel.flow active                                   \
-    20.21 channel.flow-ok active                                \
-    20.40 channel.close reply-code reply-text                   \
-    20.41 channel.close-ok                                      \
-    40.10 exchange.declare exchange type durable                \
-    40.11 exchange.declare-ok                                   \
-    40.20 exchange.delete exchange if-unused                    \
-    40.21 exchange.delete-ok                                    \
-    40.30 exchange.bind                                         \
-    40.31 exchange.bind-ok                                      \
-    40.40 exchange.unbind                                       \
-    40.51 exchange.unbind-ok                                    \
-    50.10 queue.declare queue durable                           \
-    50.11 queue.declare-ok                                      \
-    50.20 queue.bind queue exchange routing-key                 \
-    50.21 queue.bind-ok                                         \
-    50.30 queue.purge queue                                     \
-    50.31 queue.purge-ok                                        \
-    50.40 queue.delete queue                                    \
-    50.41 queue.delete-ok                                       \
-    50.50 queue.unbind queue exchange routing-key               \
-    50.51 queue.unbind-ok                                       \
-    60.10 basic.qos prefetch-size prefetch-count global         \
-    60.11 basic.qos-ok                                          \
-    60.20 basic.consume queue consumer-tag no-ack               \
-    60.21 basic.consume-ok                                      \
-    60.30 basic.cancel consumer-tag no-wait                     \
-    60.31 basic.cancel-ok                                       \
-    60.40 basic.publish exchange routing-key                    \
-    60.50 basic.return                                          \
-    60.60 basic.deliver                                         \
-    60.70 basic.get queue no-ack                                \
-    60.71 basic.get-ok                                          \
-    60.72 basic.get-empty                                       \
-    60.80 basic.ack delivery-tag multiple                       \
-    60.90 basic.reject delivery-tag requeue                     \
-    60.100 basic.recover-async                                  \
-    60.110 basic.recover                                        \
-    60.111 basic.recover-ok                                     \
-    60.120 basic.nack delivery-tag multiple requeue             \
-    85.10 confirm.select no-wait                                \
-    85.11 confirm.select-ok                                     \
-    90.10 tx.select                                             \
-    90.11 tx.select-ok                                          \
-    90.20 tx.commit                                             \
-    90.21 tx.commit-ok                                          \
-    90.30 tx.rollback                                           \
-    90.31 tx.rollback-ok                                        \
+const COMMANDS: [u8; 3328] = *b"\
+    connection.start                                    \
+    connection.start-ok user password                   \
+    connection.secure                                   \
+    connection.secure-ok                                \
+    connection.tune channel-max frame-max heartbeat     \
+    connection.tune-ok channel-max frame-max heartbeat  \
+    connection.open virtual-host                        \
+    connection.open-ok                                  \
+    connection.close                                    \
+    connection.close-ok                                 \
+    connection.blocked                                  \
+    connection.unblocked                                \
+    connection.update-secret                            \
+    connection.update-secret-ok                         \
+    channel.open                                        \
+    channel.open-ok                                     \
+    channel.flow active                                 \
+    channel.flow-ok active                              \
+    channel.close reply-code reply-text                 \
+    channel.close-ok                                    \
+    exchange.declare exchange type durable              \
+    exchange.declare-ok                                 \
+    exchange.delete exchange if-unused                  \
+    exchange.delete-ok                                  \
+    exchange.bind                                       \
+    exchange.bind-ok                                    \
+    exchange.unbind                                     \
+    exchange.unbind-ok                                  \
+    queue.declare queue durable                         \
+    queue.declare-ok queue                              \
+    queue.bind queue exchange routing-key               \
+    queue.bind-ok                                       \
+    queue.purge queue                                   \
+    queue.purge-ok message-count                        \
+    queue.delete queue                                  \
+    queue.delete-ok message-count                       \
+    queue.unbind queue exchange routing-key             \
+    queue.unbind-ok                                     \
+    basic.qos prefetch-size prefetch-count global       \
+    basic.qos-ok                                        \
+    basic.consume queue consumer-tag no-ack             \
+    basic.consume-ok consumer-tag                       \
+    basic.cancel consumer-tag no-wait                   \
+    basic.cancel-ok                                     \
+    basic.publish exchange routing-key                  \
+    basic.return                                        \
+    basic.deliver delivery-tag                          \
+    basic.get queue no-ack                              \
+    basic.get-ok delivery-tag                           \
+    basic.get-empty                                     \
+    basic.ack delivery-tag multiple                     \
+    basic.reject delivery-tag requeue                   \
+    basic.recover-async                                 \
+    basic.recover                                       \
+    basic.recover-ok                                    \
+    basic.nack delivery-tag multiple requeue            \
+    confirm.select no-wait                              \
+    confirm.select-ok                                   \
+    tx.select                                           \
+    tx.select-ok                                        \
+    tx.commit                                           \
+    tx.commit-ok                                        \
+    tx.rollback                                         \
+    tx.rollback-ok                                      \
 ";
 
 // More than the number of any row.
@@ -152,51 +153,29 @@ fn row_of(class: u16, method: u16) -> usize
 }
 
 // The rows, one behind the other: `names` for the functions here. It is made once, since a constant is copied wherever it is used.
-pub fn commands() -> [u8; 3840]
-    ensures { λ r. ⌜ 3840 ≡ length r ⌝ }
+pub fn commands() -> [u8; 3328]
+    ensures { λ r. ⌜ 3328 ≡ length r ⌝ }
 {
     COMMANDS
 }
 
 // Where the words of a command's row begin.
 pub fn words_of(class: u16, method: u16) -> usize
-    ensures { λ r. ⌜ r ≤ 3840 ⌝ }
+    ensures { λ r. ⌜ r ≤ 3328 ⌝ }
 {
     row_of(class, method) * WIDTH
 }
 
-// Where the word behind the one at `from` begins.
-pub fn next_word(names: &[u8], from: usize) -> usize
-    ensures { λ r. ⌜ r ≤ length (now (names .entry)) ⌝ }
-{
-    if names.len() <= from {
-        return names.len();
-    }
-    let end = word_end(names, from);
-    if end < names.len() { end + 1 } else { end }
-}
-
-pub fn word(out: &mut [u8], at: usize, names: &[u8], from: usize) -> usize
-    ensures { λ r. ⌜ r ≤ length (now (out .entry)) ⌝ }
-{
-    if names.len() <= from {
-        return print::put(out, at, b'?');
-    }
-    let end = word_end(names, from);
-    print::text(out, at, &names[from..end])
-}
-
-// Number and name of a command; of one that has no name the number.
+// Number and name of a command, behind a space; of one that has no name the number.
 pub fn method_name(out: &mut [u8], at: usize, names: &[u8], class: u16, method: u16) -> usize
     ensures { λ r. ⌜ r ≤ length (now (out .entry)) ⌝ }
 {
+    let point = labeled(out, at, b" ", class as u64);
+    let number = labeled(out, point, b".", method as u64);
     let from = words_of(class, method);
     if from < names.len() {
-        let number = word(out, at, names, from);
         let next = print::put(out, number, b' ');
-        return word(out, next, names, next_word(names, from));
+        return word(out, next, names, from);
     }
-    let number = print::decimal(out, at, class as u64);
-    let point = print::put(out, number, b'.');
-    print::decimal(out, point, method as u64)
+    number
 }

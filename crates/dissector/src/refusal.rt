@@ -1,13 +1,16 @@
 // A refusal by document 01's number, its name, and its values; places count from the first octet of the input.
 ghost use Prim.Native.Nat.{_≤_};
 ghost use lib.ListN.{length};
-use crate::row::word_end;
+use crate::row::labeled;
+use crate::row::word;
+use types::Numbered;
 use types::WireError;
 
 const WIDTH: usize = 24;
 
-// The names in the order of their numbers, from 1; a row of WIDTH octets each, the rest of it spaces.
-const NAMES: [u8; 264] = *b"\
+// The names by their numbers; a row of WIDTH octets each, the rest of it spaces.
+const NAMES: [u8; 288] = *b"\
+    ?                       \
     Truncated               \
     ShortStrTooLong         \
     UnsupportedFieldType    \
@@ -24,15 +27,7 @@ const NAMES: [u8; 264] = *b"\
 fn name(out: &mut [u8], at: usize, number: u8) -> usize
     ensures { λ r. ⌜ r ≤ length (now (out .entry)) ⌝ }
 {
-    if number == 0 {
-        return print::put(out, at, b'?');
-    }
-    if 11 < number {
-        return print::put(out, at, b'?');
-    }
-    let from = (number as usize - 1) * WIDTH;
-    let end = word_end(&NAMES, from);
-    print::text(out, at, &NAMES[from..end])
+    word(out, at, &NAMES, number as usize * WIDTH)
 }
 
 // A place in the octets at hand, of which the first one stands at `base`.
@@ -45,30 +40,36 @@ fn placed(e: WireError, base: u64) -> WireError {
     }
 }
 
-fn values(out: &mut [u8], at: usize, e: WireError) -> usize
+fn second(out: &mut [u8], at: usize, r: Numbered) -> usize
+    requires { ⌜ at ≤ length (now out) ⌝ }
     ensures { λ r. ⌜ r ≤ length (now (out .entry)) ⌝ }
 {
-    let r = e.numbered();
-    if r.count == 0 {
-        return print::inside(out, at);
-    }
-    let open = print::put(out, at, b'(');
-    let first = print::decimal(out, open, r.first);
     if r.count == 1 {
-        return print::put(out, first, b')');
+        return at;
     }
-    let comma = print::text(out, first, b", ");
-    let second = print::decimal(out, comma, r.second);
-    print::put(out, second, b')')
+    labeled(out, at, b", ", r.second)
 }
 
+// The values of a refusal, of which it has up to two.
+fn values(out: &mut [u8], at: usize, r: Numbered) -> usize
+    requires { ⌜ at ≤ length (now out) ⌝ }
+    ensures { λ r. ⌜ r ≤ length (now (out .entry)) ⌝ }
+{
+    if r.count == 0 {
+        return at;
+    }
+    let first = labeled(out, at, b"(", r.first);
+    let end = second(out, first, r);
+    print::put(out, end, b')')
+}
+
+// Stands behind something else, as after a space.
 pub fn refused(out: &mut [u8], at: usize, e: WireError, base: u64) -> usize
     ensures { λ r. ⌜ r ≤ length (now (out .entry)) ⌝ }
 {
-    let number = e.numbered().number;
-    let word = print::text(out, at, b"refused ");
-    let next = print::decimal(out, word, number as u64);
-    let space = print::put(out, next, b' ');
-    let end = name(out, space, number);
-    values(out, end, placed(e, base))
+    let r = placed(e, base).numbered();
+    let number = labeled(out, at, b" refused ", r.number as u64);
+    let space = print::put(out, number, b' ');
+    let end = name(out, space, r.number);
+    values(out, end, r)
 }

@@ -1,33 +1,28 @@
 -- From what the reader of a payload leaves to what the reading step leaves.
-use mathlib.Core.Path.{_≡_, refl, sym, ap, _∙_}
-use mathlib.Core.List.{List, []}
+use mathlib.Core.Path.{_≡_, refl, ap, _∙_}
+use mathlib.Core.List.{List}
 use Prim.Native.Nat.{ℕ, _+_, _-_, _*_, _≤_, _<_}
 use native.Mathlib.Omega.{arith}
 use lib.ListN.{length, take}
 use lib.Seq.{length-take-le}
 use Rattle.types.specs.Answer.{Answer, given, refused, Refusal, notWritten, andThen}
-use Rattle.types.specs.Memory.{splice, Outcome, outcome}
+use Rattle.types.specs.Memory.{Outcome, outcome}
 use Rattle.types.specs.declared.Span.{Span}
 use Rattle.types.proofs.Splice.{splice-nil}
 use Rattle.types.proofs.Tests.{leb-yes, leb-no}
 use Rattle.tables.specs.Letters.{Letters}
-use Rattle.tables.specs.Tape.{WithTape, WithCount, roomOf, fillTape, recordsOnly}
+use Rattle.tables.specs.Tape.{WithCount, roomOf, fillTape, recordsOnly}
 use Rattle.method.specs.Fields.{Located, Returned}
 use Rattle.method.specs.Commands.{Command}
 use Rattle.method.specs.Properties.{Header}
 use Rattle.method.specs.Reading.{commandAt, headerAt, commandWithTape, headerWithTape, readCommand, readHeader}
 use Rattle.frame.specs.Frame.{Frame, decodeAt}
-use Rattle.frame.specs.Step.{Payload, command, header, body, heartbeat, FrameOf, payloadWithTape, payloadAt, frameWithPayloadAt, stepAt, readFrame}
+use Rattle.frame.specs.Step.{command, header, body, heartbeat, FrameOf, payloadWithTape, payloadAt, frameWithPayloadAt, stepAt, readFrame}
 
 -- what was read of a payload, as the answer of its frame, which ends at `next`
 abbrev pub framed : {A B : Type 0} → (A → B) → ℕ → Outcome (WithCount A) → Outcome (WithCount B)
 framed f next (outcome (given x n) tape) = outcome (given (record { value = f (x .value); count = x .count }) next) tape
 framed f next (outcome (refused r) tape) = outcome (refused r) tape
-
--- from the case of an answer that a match has found
-pub from-case : {R A B : Type 0} (answerOf : R → Answer (WithCount A)) (f : A → B) (next : ℕ) {r k : R} {after : List ℕ} {o : Outcome (WithCount A)} {whole : Outcome (WithCount B)}
-    → whole ≡ framed f next o → outcome (answerOf r) after ≡ o → r ≡ k → framed f next (outcome (answerOf k) after) ≡ whole
-from-case answerOf f next {after = after} w e q = ap (λ k. framed f next (outcome (answerOf k) after)) (sym q) ∙ ap (framed f next) e ∙ sym w
 
 -- how many records there are does not depend on the value
 pub records-framed : {A B : Type 0} (f : A → B) (next : ℕ) (o : Outcome (WithCount A)) → recordsOnly (framed f next o) ≡ framed (λ u. u) next (recordsOnly o)

@@ -15,6 +15,11 @@ use Rattle.frame_reader.specs.declared.Decoded.{Decoded}
 use Rattle.frame_reader.specs.declared.Decoded.the-variants as decoded
 use Rattle.frame_reader.specs.declared.ReadFrame.{ReadFrame}
 use Rattle.frame_reader.specs.declared.ReadFrame.the-variants as read
+use Rattle.frame_reader.specs.declared.ReadFrameWords.{ReadFrameWords}
+use Rattle.frame_reader.specs.declared.ReadFrameWords.the-variants as in-words
+use Rattle.frame_reader.specs.Words.{FrameWords}
+use Rattle.table_reader.specs.declared.ReadRecords.{ReadRecords}
+use Rattle.table_reader.specs.declared.ReadRecords.the-variants as records
 use Rattle.frame_reader.specs.declared.Stop.{Stop}
 use Rattle.frame_reader.specs.declared.Stop.the-variants as stop
 use Rattle.frame_reader.specs.declared.Walked.{Walked}
@@ -26,6 +31,16 @@ answerOfDecoded (decoded.Refused e) = refused (refusal e)
 abbrev pub answerOfReadFrame : ReadFrame → Answer (WithCount (FrameOf Returned Span))
 answerOfReadFrame (read.Value ch x records next) = given (record { value = record { channel = ch; payload = payloadOf x }; count = records }) (next .at)
 answerOfReadFrame (read.Refused e) = refused (refusal e)
+
+-- in words: with the words that were lent, as they are at exit
+
+abbrev pub answerOfPayloadWords : ReadRecords → List ℕ → Answer (WithCount (List ℕ))
+answerOfPayloadWords (records.Value n next) words = given (record { value = words; count = n }) (next .at)
+answerOfPayloadWords (records.Refused e) words = refused (refusal e)
+
+abbrev pub answerOfFrameWords : ReadFrameWords → List ℕ → Answer (WithCount FrameWords)
+answerOfFrameWords (in-words.Value ch n next) words = given (record { value = record { channel = ch; payload = words }; count = n }) (next .at)
+answerOfFrameWords (in-words.Refused e) words = refused (refusal e)
 
 abbrev pub stopRefusal : Stop → Option Refusal
 stopRefusal stop.None = none

@@ -3,6 +3,7 @@ pub mod decode;
 mod fixed_size;
 pub mod step;
 pub mod walk;
+pub mod words;
 
 use frame::Frame;
 use frame::Payload;
@@ -18,6 +19,12 @@ pub enum Decoded {
 // Channel and payload of a frame that was read, the number of its tape records, and the cursor after it.
 pub enum ReadFrame {
     Value(u16, Payload, usize, Cursor),
+    Refused(WireError),
+}
+
+// A frame in words: its channel, the number of its tape records, and the cursor after it. Its payload is in the words lent.
+pub enum ReadFrameWords {
+    Value(u16, usize, Cursor),
     Refused(WireError),
 }
 

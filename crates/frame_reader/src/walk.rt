@@ -20,10 +20,10 @@ use crate::decode::decode;
 use crate::fixed_size::fixed_size_frame;
 use frame::Frame;
 use frame::FrameType;
-use method_reader::ReadCommand;
-use method_reader::ReadContentHeader;
-use method_reader::commands::read_command;
-use method_reader::headers::read_content_header;
+use method_reader::ReadCall;
+use method_reader::ReadHeaderWords;
+use method_reader::commands::read_call;
+use method_reader::headers::read_header_words;
 use table_reader::ReadRecords;
 use types::Cursor;
 use types::WireError;
@@ -45,21 +45,23 @@ fn payload_records(
     let span = frame.payload;
     let start = span.start;
     let end = start + span.len;
+    let at = Cursor { at: start };
     let frame_type = frame.frame_type;
     match frame_type {
-        FrameType::Method => match read_command(&s[..end], Cursor { at: start }, tape, used) {
-            ReadCommand::Refused(e) => ReadRecords::Refused(e),
-            ReadCommand::Value(_, records, _) => ReadRecords::Value(records, next),
-        },
-        FrameType::Header => match read_content_header(
-            &s[..end],
-            Cursor { at: start },
-            tape,
-            used,
-        ) {
-            ReadContentHeader::Refused(e) => ReadRecords::Refused(e),
-            ReadContentHeader::Value(_, records, _) => ReadRecords::Value(records, next),
-        },
+        FrameType::Method => {
+            let mut words = [0u64; 8];
+            match read_call(&s[..end], at, tape, used, &mut words) {
+                ReadCall::Refused(e) => ReadRecords::Refused(e),
+                ReadCall::Value(_, _, records, _) => ReadRecords::Value(records, next),
+            }
+        }
+        FrameType::Header => {
+            let mut words = [0u64; 22];
+            match read_header_words(&s[..end], at, tape, used, &mut words) {
+                ReadHeaderWords::Refused(e) => ReadRecords::Refused(e),
+                ReadHeaderWords::Value(_, _, _, records, _) => ReadRecords::Value(records, next),
+            }
+        }
         FrameType::Body => ReadRecords::Value(0, next),
         FrameType::Heartbeat => {
             if start < end {

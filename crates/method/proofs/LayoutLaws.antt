@@ -11,7 +11,7 @@ use lib.Dec.{T, leb, eqb}
 use types.Run.{OneOf}
 use Rattle.types.specs.Lookup as table
 use Rattle.types.specs.Lookup.{row, lookup}
-use Rattle.types.proofs.Tests.{true-T, false-T, yes-leb, decide, eqb-yes}
+use Rattle.types.proofs.Tests.{true-T, yes-leb, decide, eqb-yes}
 use Rattle.types.proofs.Arms.{arm, Rest, covers, rest}
 use Rattle.tables.proofs.JudgeLaws.{and-true}
 use Rattle.method.specs.Fields.{Field}
@@ -82,7 +82,7 @@ pub layout-arm : (l r : Layout) (k c m : ℕ) → m < 100000 → OneOf (k ∷ []
     → leb (l .count) 8 ≡ true → (layoutFields r ≡ fieldsIn commands c m) × (r .count ≤ 8)
 layout-arm l r k c m h o e f n = rw e (sym (arm-fields k c m h o ∙ f), yes-leb (l .count) 8 n)
 
--- the fields of a command that is known, and of one that is not
+-- the fields of a command that is known
 pub known-fields : (c m : ℕ) → known c m ≡ true → fieldsIn commands c m ≡ some (fieldsOf c m)
 unfolding known fieldsOf
 known-fields c m e = found (fieldsIn commands c m) e
@@ -90,14 +90,6 @@ known-fields c m e = found (fieldsIn commands c m) e
     found : (x : Option (List Field)) → isSome x ≡ true → x ≡ some (orNone x)
     found none h = absurd (true-T h)
     found (some fs) h = refl
-
-pub unknown-fields : (c m : ℕ) → known c m ≡ false → fieldsIn commands c m ≡ none
-unfolding known
-unknown-fields c m e = missing (fieldsIn commands c m) e
-  where
-    missing : (x : Option (List Field)) → isSome x ≡ false → x ≡ none
-    missing none h = refl
-    missing (some fs) h = absurd (false-T h)
 
 -- What holds of every row and of no field at all, holds of any command's fields: one test over the table
 

@@ -3,9 +3,9 @@ use mathlib.Core.Path.{_≡_, refl, sym, ap, _∙_}
 use mathlib.Core.Bool.{Bool, true, false}
 use mathlib.Core.Option.{none}
 use mathlib.Core.List.{List, [], _∷_, _++_}
-use Prim.Native.Nat.{ℕ, _+_, _-_, _*_, _^_, _/_, _≤_, _<_}
+use Prim.Native.Nat.{ℕ, zero, suc, _+_, _-_, _*_, _^_, _/_, _%_, _≤_, _<_}
 use native.Mathlib.Omega.{arith}
-use native.Mathlib.Nat.{two-pow-succ}
+use native.Mathlib.Nat.{mod-eq-of-lt, two-pow-succ}
 use lib.ListN.{length}
 use lib.Dec.{leb}
 use lib.Arith.{digits-mod}
@@ -15,7 +15,7 @@ use Rattle.types.specs.Octets.{octets}
 use Rattle.types.specs.Strings.{judgeLength}
 use Rattle.types.specs.Judgement.{test}
 use Rattle.bits.specs.Flags.{bit}
-use Rattle.types.proofs.Tests.{leb-yes, leb-no, yes-leb}
+use Rattle.types.proofs.Tests.{decide, leb-yes, leb-no, yes-leb, no-leb}
 use Rattle.types.proofs.Standing.{Stands, stands-left, stands-right}
 use Rattle.types.proofs.Chain.{test-none, orElse-none}
 use Rattle.types.proofs.RoundTrip.{number-here, short-fit}
@@ -43,6 +43,26 @@ flags-of [] = refl
 flags-of (true ∷ ps) = rw (leb-yes (2 ^ length ps) (1 * 2 ^ length ps + flagsNumber ps) (omega arith), digits-mod 1 (flags-lt ps), flags-of ps)
 flags-of (false ∷ ps) =
     rw (leb-no (2 ^ length ps) (0 * 2 ^ length ps + flagsNumber ps) (omega (arith, flags-lt ps)), digits-mod 0 (flags-lt ps), flags-of ps)
+
+pub flags-length : (w n : ℕ) → length (flagsOf w n) ≡ w
+unfolding flagsOf
+flags-length zero n = refl
+flags-length (suc w) n = ap suc (flags-length w (n % 2 ^ w))
+
+pub flags-number : (w n : ℕ) → n < 2 ^ w → flagsNumber (flagsOf w n) ≡ n
+unfolding flagsOf
+flags-number zero n h = omega arith
+flags-number (suc w) n h =
+    decide (leb (2 ^ w) n)
+    (λ yes.
+    let rest = n - 2 ^ w in
+    let whole : n ≡ 1 * 2 ^ w + rest = omega (arith, yes-leb (2 ^ w) n yes) in
+    let small : rest < 2 ^ w = omega (arith, two-pow-succ w) in
+    let left : n % 2 ^ w ≡ rest = ap (λ (x : ℕ). x % 2 ^ w) whole ∙ digits-mod 1 small in
+    rw (yes, flags-length w (n % 2 ^ w), left, flags-number w rest small) (sym whole))
+    (λ no.
+    let small : n < 2 ^ w = no-leb (2 ^ w) n no in
+    rw (no, mod-eq-of-lt small, flags-number w n small) (omega arith))
 
 pub flags-octets : (ps : List Bool) → length ps ≡ 13 → 8 * flagsNumber ps < 256 ^ 2
 flags-octets ps e = let l : flagsNumber ps < 2 ^ 13 = rw e at (flags-lt ps) in omega arith

@@ -2,31 +2,35 @@
 use mathlib.Core.Path.{_≡_, ap, _∙_}
 use mathlib.Core.Bool.{true, false}
 use mathlib.Core.Option.{some}
-use mathlib.Core.List.{List, map}
+use mathlib.Core.List.{List, _++_, map}
 use Prim.Native.Nat.{ℕ, _≤_, _<_}
-use lib.ListN.{length, take}
+use lib.ListN.{length, take, drop}
 use Rattle.types.specs.Answer.{Refusal, given, refused, notWritten, unknownMethod}
 use Rattle.types.specs.AnswerOf.{refusal}
 use Rattle.types.specs.Memory.{outcome}
 use Rattle.types.specs.Octets.{uintAt}
 use Rattle.types.specs.declared.WireError.{WireError}
-use Rattle.types.proofs.NumberLaws.{Octets}
 use Rattle.types.proofs.Tests.{leb-yes, leb-no}
 use Rattle.tables.specs.Letters.{Letters}
 use Rattle.tables.specs.Tape.{roomOf}
-use Rattle.method.specs.Fields.{Returned}
-use Rattle.method.specs.Commands.{known, fieldsOf, Command, call}
+use Rattle.method.specs.Commands.{known, fieldsOf, call}
 use Rattle.method.specs.Properties.{select, flagsOf}
 use Rattle.method.specs.Reading.{commandAt, readCommand, returnedArgs}
-use Rattle.method.specs.Layout.{fieldOf, layoutFields}
+use Rattle.method.specs.Words.{argsWords}
+use Rattle.method.specs.Layout.{fieldOf, layoutFields, zeros}
 use Rattle.method.specs.declared.layout.Layout.{Layout}
 use Rattle.method.proofs.LayoutLaws.{all-present}
-use Rattle.method_words.proofs.CommandLaws.{commandIn}
+use Rattle.method_words.specs.Words.{callOf}
+use Rattle.method_words.specs.InWords.{wordsOutcome, inWords}
+use Rattle.method_words.specs.declared.Call.{Call}
 use Rattle.method_reader.specs.Fields.{scanAt, FieldsStored, noTable, tableFilled, readArguments}
 use Rattle.method_reader.specs.declared.fields.TablePlace.{TablePlace}
 use Rattle.method_reader.specs.declared.fields.ReadFields.{ReadFields}
 use Rattle.method_reader.specs.declared.fields.ReadFields.the-variants as fields
-use Rattle.method_reader.proofs.ReaderLaws.{command-tables, Read, scan-refused, scan-read, read-args, read-filled}
+use Rattle.method_reader.proofs.ReaderLaws.{command-tables, Read, scan-refused, scan-read, splice-head, read-filled}
+
+abbrev callIn : ℕ → ℕ → List ℕ → Call
+callIn c m words = record { class = c; method = m; words = words }
 
 -- The arguments, from what the reader of fields has left
 
@@ -56,16 +60,20 @@ module _
   unfolding readArguments
   arguments-spare place next same h = rw (read place next same .read, leb-no (length s) next h)
 
-  pub arguments-read : (place : TablePlace) (next : ℕ) (memory : List ℕ) (x : Command Returned) → r ≡ fields.Value place next → length s ≤ next → Octets s
-      → memory ≡ tableFilled letters s place used tape → x ≡ commandIn c m after
-      → outcome (given (record { value = x; count = place .records }) next) memory ≡ readArguments letters c m s at used tape
+  pub arguments-read : (place : TablePlace) (next : ℕ) (memory lent : List ℕ) → r ≡ fields.Value place next → length s ≤ next → before ≡ zeros 8
+      → memory ≡ tableFilled letters s place used tape
+      → wordsOutcome (given (record { value = callIn c m after; count = place .records }) next) after memory
+      ≡ inWords callOf (λ x. x .words) lent (readArguments letters c m s at used tape)
   unfolding readArguments
-  arguments-read place next memory x same h o filled e =
+  arguments-read place next memory lent same h none filled =
       let f = read place next same in
-      let value : x ≡ call c m (returnedArgs (fieldsOf c m) (f .args))
-      = e ∙ ap (call c m) (read-args letters (fieldsOf c m) s at (roomOf used tape) before after place next o f) in
-      rw (value, f .read, leb-yes (length s) next h)
-      (read-filled letters (fieldsOf c m) s at used tape memory before after place next (call c m (returnedArgs (fieldsOf c m) (f .args))) (command-tables c m) filled f)
+      let fs = fieldsOf c m in
+      let value = call c m (returnedArgs fs (f .args)) in
+      let ws = argsWords fs (returnedArgs fs (f .args)) in
+      let made : callIn c m after ≡ callOf value = ap (callIn c m) (f .words ∙ splice-head ws before ∙ ap (λ (l : List ℕ). ws ++ drop (length ws) l) none) in
+      ap (λ (x : Call). wordsOutcome (given (record { value = x; count = place .records }) next) (x .words) memory) made
+      ∙ rw (f .read, leb-yes (length s) next h)
+      (ap (inWords callOf (λ x. x .words) lent) (read-filled letters fs s at used tape memory before after place next value (command-tables c m) filled f))
 
 -- Behind class and method
 

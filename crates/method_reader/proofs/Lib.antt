@@ -3,4 +3,5 @@ pub mod ReaderLaws
 pub mod FieldLaws
 pub mod PropertyLaws
 pub mod CommandLaws
+pub mod KeptLaws
 pub mod LoginLaws

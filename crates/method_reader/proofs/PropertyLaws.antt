@@ -1,25 +1,31 @@
 -- The content header reader, from what it reads first: the properties behind the flags, and what stands before them.
-use mathlib.Core.Path.{_≡_}
+use mathlib.Core.Path.{_≡_, sym, ap, _∙_}
 use mathlib.Core.List.{List, map}
-use Prim.Native.Nat.{ℕ, _/_}
+use Prim.Native.Nat.{ℕ, _/_, _<_}
+use native.Mathlib.Omega.{arith}
 use Rattle.types.specs.Answer.{given, refused, Refusal}
 use Rattle.types.specs.AnswerOf.{refusal}
 use Rattle.types.specs.declared.WireError.{WireError}
 use Rattle.types.specs.Octets.{uintAt}
 use Rattle.types.specs.Memory.{outcome}
-use Rattle.types.proofs.NumberLaws.{Octets}
 use Rattle.tables.specs.Letters.{Letters}
 use Rattle.tables.specs.Tape.{roomOf}
-use Rattle.method.specs.Fields.{Returned}
-use Rattle.method.specs.Properties.{properties, select, flagsOf, Header, header}
+use Rattle.method.specs.Properties.{properties, select, flagsOf, header}
 use Rattle.method.specs.Reading.{headerAt, returnedArgs, readHeader}
-use Rattle.method.specs.Layout.{fieldOf}
-use Rattle.method_words.specs.Words.{headerWith}
+use Rattle.method.specs.Layout.{fieldOf, zeros}
+use Rattle.method.specs.Words.{argsWords}
+use Rattle.method.proofs.MethodLaws.{flags-number}
+use Rattle.method_words.specs.Words.{padded, headerWords}
+use Rattle.method_words.specs.InWords.{wordsOutcome, inWords}
+use Rattle.method_words.specs.declared.HeaderWords.{HeaderWords}
 use Rattle.method_reader.specs.declared.fields.TablePlace.{TablePlace}
 use Rattle.method_reader.specs.declared.fields.ReadFields.{ReadFields}
 use Rattle.method_reader.specs.declared.fields.ReadFields.the-variants as fields
 use Rattle.method_reader.specs.Fields.{scanAt, FieldsStored, noTable, tableFilled, readProperties, readSized}
-use Rattle.method_reader.proofs.ReaderLaws.{property-tables, scan-refused, scan-read, read-args, read-filled}
+use Rattle.method_reader.proofs.ReaderLaws.{property-tables, scan-refused, scan-read, splice-head, read-filled}
+
+abbrev headerIn : ℕ → ℕ → ℕ → List ℕ → HeaderWords
+headerIn c n flags words = record { class = c; «body_size» = n; present = flags; words = words }
 
 module _ (letters : Letters) (s : List ℕ) (used : ℕ) (tape : List ℕ) where
   abbrev stored : ℕ → ℕ → ℕ → List ℕ → List ℕ → List ℕ → ReadFields → Type 0
@@ -31,17 +37,22 @@ module _ (letters : Letters) (s : List ℕ) (used : ℕ) (tape : List ℕ) where
   properties-refused c n flags p room layout first last r e l free h same =
       rw (scan-refused letters (select (flagsOf 13 flags) properties) s p (roomOf used tape) first last r e (rw (l, free) at h) same)
 
-  pub properties-read : (c n flags p room : ℕ) (layout first last : List ℕ) (r : ReadFields) (place : TablePlace) (end : ℕ) (value : Header Returned) (memory : List ℕ) → Octets s
-      → map fieldOf layout ≡ properties → room ≡ roomOf used tape → stored flags p room layout first last r → r ≡ fields.Value place end
-      → value ≡ headerWith c n flags last
+  pub properties-read : (c n flags p room : ℕ) (layout last : List ℕ) (r : ReadFields) (place : TablePlace) (end : ℕ) (memory before : List ℕ) → flags < 8192
+      → map fieldOf layout ≡ properties → room ≡ roomOf used tape → stored flags p room layout (zeros 22) last r → r ≡ fields.Value place end
       → memory ≡ tableFilled letters s place used tape
-      → outcome (given (record { value = value; count = place .records }) end) memory ≡ readProperties letters c n flags s p used tape
+      → wordsOutcome (given (record { value = headerIn c n flags last; count = place .records }) end) last memory
+      ≡ inWords headerWords (λ x. x .words) before (readProperties letters c n flags s p used tape)
   unfolding readProperties
-  properties-read c n flags p room layout first last r place end value memory o l free h same v m =
+  properties-read c n flags p room layout last r place end memory before small l free h same m =
       let fs = select (flagsOf 13 flags) properties in
-      let x = scan-read letters fs s p (roomOf used tape) first last r place end (rw (l, free) at h) same in
-      rw (v, read-args letters fs s p (roomOf used tape) first last place end o x, x .read)
-      (read-filled letters fs s p used tape memory first last place end (header c n (flagsOf 13 flags) (returnedArgs fs (x .args))) (property-tables (flagsOf 13 flags)) m x)
+      let x = scan-read letters fs s p (roomOf used tape) (zeros 22) last r place end (rw (l, free) at h) same in
+      let value = header c n (flagsOf 13 flags) (returnedArgs fs (x .args)) in
+      let ws = argsWords fs (returnedArgs fs (x .args)) in
+      let made : headerIn c n flags last ≡ headerWords value
+      = ap (headerIn c n flags) (x .words ∙ splice-head ws (zeros 22)) ∙ ap (λ (k : ℕ). headerIn c n k (padded 22 ws)) (sym (flags-number 13 flags (omega arith))) in
+      ap (λ (w : HeaderWords). wordsOutcome (given (record { value = w; count = place .records }) end) (w .words) memory) made
+      ∙ rw (x .read)
+      (ap (inWords headerWords (λ x. x .words) before) (read-filled letters fs s p used tape memory (zeros 22) last place end value (property-tables (flagsOf 13 flags)) m x))
 
   pub sized-refused : (c p : ℕ) (r : Refusal) → refused r ≡ uintAt 8 s p → outcome (refused r) tape ≡ readSized letters c s p used tape
   unfolding readSized

@@ -226,7 +226,7 @@ pub record Read (letters : Letters) (fs : List Field) (s : List ℕ) (p room : �
   pub table : lastTable fs args noTable ≡ place
   pub words : after ≡ splice 0 (argsWords fs (returnedArgs fs args)) before
 
-splice-head : (xs l : List ℕ) → splice 0 xs l ≡ xs ++ drop (length xs) l
+pub splice-head : (xs l : List ℕ) → splice 0 xs l ≡ xs ++ drop (length xs) l
 unfolding splice
 splice-head xs l = rw (zero-add (length xs))
 
@@ -255,13 +255,7 @@ module _ (letters : Letters) (fs : List Field) (s : List ℕ) (p room : ℕ) (be
           record { args = vs; read = e ∙ ap (given vs) (given-next (lastTable fs vs noTable) place q next a); table = given-value (lastTable fs vs noTable) place q next a; words = st .1 }
       go (refused x) e st = let a = sym st ∙ ap answerOfFields same in let z : _≡_ {A = ℕ} 0 1 = cc in absurd (omega arith)
 
-  -- they are returned as they were read
-  pub read-args : (place : TablePlace) (next : ℕ) → Octets s → (r : Read letters fs s p room before after place next) → cutArgs fs (argsFrom fs after) ≡ returnedArgs fs (r .args)
-  read-args place next o r =
-      let ws = argsWords fs (returnedArgs fs (r .args)) in
-      rw (r .words, splice-head ws before) (args-read letters fs s p room (r .args) next (drop (length ws) before) o (r .read))
-
--- and the tape is filled with their records
+-- The tape is filled with their records
 pub read-filled : {A : Type 0} (letters : Letters) (fs : List Field) (s : List ℕ) (p used : ℕ) (tape memory before after : List ℕ) (place : TablePlace) (next : ℕ) (value : A) → tables fs ≤ 1
     → memory ≡ tableFilled letters s place used tape → (r : Read letters fs s p (roomOf used tape) before after place next)
     → outcome (given (record { value = value; count = place .records }) next) memory ≡ fillTape used tape (given (record { value = value; tape = tapeOf fs (r .args) }) next)

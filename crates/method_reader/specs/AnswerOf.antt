@@ -1,4 +1,5 @@
 -- What the answers of the readers say.
+use mathlib.Core.List.{List}
 use Prim.Native.Nat.{ℕ}
 use Rattle.types.specs.Answer.{Answer, given, refused}
 use Rattle.types.specs.AnswerOf.{refusal}
@@ -8,6 +9,12 @@ use Rattle.method.specs.Fields.{Returned, Login}
 use Rattle.method.specs.Commands.{Command}
 use Rattle.method.specs.Properties.{Header}
 use Rattle.method.specs.AnswerOf.{commandOf, headerOf}
+use Rattle.method_words.specs.declared.Call.{Call}
+use Rattle.method_words.specs.declared.HeaderWords.{HeaderWords}
+use Rattle.method_reader.specs.declared.ReadCall.{ReadCall}
+use Rattle.method_reader.specs.declared.ReadCall.the-variants as call
+use Rattle.method_reader.specs.declared.ReadHeaderWords.{ReadHeaderWords}
+use Rattle.method_reader.specs.declared.ReadHeaderWords.the-variants as headerWords
 use Rattle.method_reader.specs.declared.ReadCommand.{ReadCommand}
 use Rattle.method_reader.specs.declared.ReadCommand.the-variants as command
 use Rattle.method_reader.specs.declared.ReadContentHeader.{ReadContentHeader}
@@ -19,6 +26,17 @@ use Rattle.method_reader.specs.declared.fields.ReadField.{ReadField}
 use Rattle.method_reader.specs.declared.fields.ReadField.the-variants as field
 use Rattle.method_reader.specs.declared.fields.ReadFields.{ReadFields}
 use Rattle.method_reader.specs.declared.fields.ReadFields.the-variants as fields
+
+-- in words: with the words that were lent, as they are at exit
+
+abbrev pub answerOfCall : ReadCall → List ℕ → Answer (WithCount Call)
+answerOfCall (call.Value c m records next) words = given (record { value = record { class = c; method = m; words = words }; count = records }) (next .at)
+answerOfCall (call.Refused e) words = refused (refusal e)
+
+abbrev pub answerOfHeaderWords : ReadHeaderWords → List ℕ → Answer (WithCount HeaderWords)
+answerOfHeaderWords (headerWords.Value c n present records next) words =
+    given (record { value = record { class = c; «body_size» = n; present = present; words = words }; count = records }) (next .at)
+answerOfHeaderWords (headerWords.Refused e) words = refused (refusal e)
 
 abbrev pub answerOfCommand : ReadCommand → Answer (WithCount (Command Returned))
 answerOfCommand (command.Value x records next) = given (record { value = commandOf x; count = records }) (next .at)

@@ -6,9 +6,12 @@ ghost use lib.ListN.{length};
 ghost use Rattle.types.specs.Memory.{outcome};
 ghost use Rattle.tables.specs.Letters.{errata};
 ghost use Rattle.method.specs.Reading.{readHeader};
+ghost use Rattle.method_words.specs.Words.{headerWords};
+ghost use Rattle.method_words.specs.InWords.{wordsOutcome, inWords};
 ghost use Rattle.method_reader.specs.Fields.{readProperties, readSized};
-ghost use Rattle.method_reader.specs.AnswerOf.{answerOfHeader};
+ghost use Rattle.method_reader.specs.AnswerOf.{answerOfHeader, answerOfHeaderWords};
 use crate::ReadContentHeader;
+use crate::ReadHeaderWords;
 use crate::fields::ReadFields;
 use crate::fields::fill_table;
 use crate::fields::read_fields;
@@ -27,37 +30,61 @@ fn read_properties(
     at: usize,
     tape: &mut [u64],
     used: usize,
-) -> ReadContentHeader
+    words: &mut [u64; 22],
+) -> ReadHeaderWords
     requires { ⌜ (at ≤ length (now s)) × (present < 8192) ⌝ }
-    ensures { λ r. ⌜ outcome (answerOfHeader r) (now (tape .exit)) ≡ readProperties errata class «body_size» present (now (s .entry)) at used (now (tape .entry)) ⌝ }
+    ensures { λ r. ⌜ wordsOutcome (answerOfHeaderWords r (now (words .exit))) (now (words .exit)) (now (tape .exit)) ≡ inWords headerWords (λ x. x .words) (now (words .entry)) (readProperties errata class «body_size» present (now (s .entry)) at used (now (tape .entry))) ⌝ }
 {
     let layout = property_fields();
-    let mut words = [0u64; 22];
-    match read_fields(&layout, present, s, at, room(tape, used), &mut words) {
-        ReadFields::Refused(e) => ReadContentHeader::Refused(e),
+    let mut properties = [0u64; 22];
+    match read_fields(&layout, present, s, at, room(tape, used), &mut properties) {
+        ReadFields::Refused(e) => ReadHeaderWords::Refused(e),
         ReadFields::Value(table, next) => {
             let records = table.records;
             fill_table(s, table, tape, used);
-            ReadContentHeader::Value(
-                header_of(class, body_size, present, words),
-                records,
-                Cursor { at: next },
-            )
+            *words = properties;
+            ReadHeaderWords::Value(class, body_size, present, records, Cursor { at: next })
         }
     }
 }
 
 // Behind class and weight.
-fn read_sized(class: u16, s: &[u8], at: Cursor, tape: &mut [u64], used: usize) -> ReadContentHeader
-    ensures { λ r. ⌜ outcome (answerOfHeader r) (now (tape .exit)) ≡ readSized errata class (now (s .entry)) (at .at) used (now (tape .entry)) ⌝ }
+fn read_sized(
+    class: u16,
+    s: &[u8],
+    at: Cursor,
+    tape: &mut [u64],
+    used: usize,
+    words: &mut [u64; 22],
+) -> ReadHeaderWords
+    ensures { λ r. ⌜ wordsOutcome (answerOfHeaderWords r (now (words .exit))) (now (words .exit)) (now (tape .exit)) ≡ inWords headerWords (λ x. x .words) (now (words .entry)) (readSized errata class (now (s .entry)) (at .at) used (now (tape .entry))) ⌝ }
 {
     match at.u64(s) {
-        ReadU64::Refused(e) => ReadContentHeader::Refused(e),
+        ReadU64::Refused(e) => ReadHeaderWords::Refused(e),
         ReadU64::Value(body_size, after) => match after.u16(s) {
-            ReadU16::Refused(e) => ReadContentHeader::Refused(e),
+            ReadU16::Refused(e) => ReadHeaderWords::Refused(e),
             ReadU16::Value(flags, next) => {
-                read_properties(class, body_size, flags / 8, s, next.at, tape, used)
+                read_properties(class, body_size, flags / 8, s, next.at, tape, used, words)
             }
+        },
+    }
+}
+
+// Reads a content header in words, and fills the records behind the used ones with its headers.
+pub fn read_header_words(
+    s: &[u8],
+    at: Cursor,
+    tape: &mut [u64],
+    used: usize,
+    words: &mut [u64; 22],
+) -> ReadHeaderWords
+    ensures { λ r. ⌜ wordsOutcome (answerOfHeaderWords r (now (words .exit))) (now (words .exit)) (now (tape .exit)) ≡ inWords headerWords (λ x. x .words) (now (words .entry)) (readHeader errata (now (s .entry)) (at .at) used (now (tape .entry))) ⌝ }
+{
+    match at.u16(s) {
+        ReadU16::Refused(e) => ReadHeaderWords::Refused(e),
+        ReadU16::Value(class, after) => match after.u16(s) {
+            ReadU16::Refused(e) => ReadHeaderWords::Refused(e),
+            ReadU16::Value(_, next) => read_sized(class, s, next, tape, used, words),
         },
     }
 }
@@ -66,11 +93,11 @@ fn read_sized(class: u16, s: &[u8], at: Cursor, tape: &mut [u64], used: usize) -
 pub fn read_content_header(s: &[u8], at: Cursor, tape: &mut [u64], used: usize) -> ReadContentHeader
     ensures { λ r. ⌜ outcome (answerOfHeader r) (now (tape .exit)) ≡ readHeader errata (now (s .entry)) (at .at) used (now (tape .entry)) ⌝ }
 {
-    match at.u16(s) {
-        ReadU16::Refused(e) => ReadContentHeader::Refused(e),
-        ReadU16::Value(class, after) => match after.u16(s) {
-            ReadU16::Refused(e) => ReadContentHeader::Refused(e),
-            ReadU16::Value(_, next) => read_sized(class, s, next, tape, used),
-        },
+    let mut words = [0u64; 22];
+    match read_header_words(s, at, tape, used, &mut words) {
+        ReadHeaderWords::Refused(e) => ReadContentHeader::Refused(e),
+        ReadHeaderWords::Value(class, body_size, present, records, next) => {
+            ReadContentHeader::Value(header_of(class, body_size, present, words), records, next)
+        }
     }
 }

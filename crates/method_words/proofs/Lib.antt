@@ -2,4 +2,5 @@
 pub mod CommandLaws
 pub mod CallLaws
 pub mod PutLaws
+pub mod InWordsLaws
 pub mod PickLaws

@@ -20,9 +20,8 @@ fn span_at(words: [u64; 8], j: usize) -> Span
     }
 }
 
-// The command of a pair from the words of its arguments, in wire order (specs/Words.antt of method). Numbers are cut to their width.
-// A pair that is not known gives tx.select, so callers test it first.
-pub fn command_of(class: u16, method: u16, words: [u64; 8]) -> Command
+// A pair that is not known gives tx.select.
+fn command_of(class: u16, method: u16, words: [u64; 8]) -> Command
     ensures { λ r. ⌜ commandOf r ≡ orTxSelect (commandWith class method words) ⌝ }
 {
     match class as u64 * 100_000 + method as u64 {
@@ -123,7 +122,7 @@ pub fn command_of(class: u16, method: u16, words: [u64; 8]) -> Command
     }
 }
 
-// The same, where it is not known whether the pair is.
+// The command of a pair from the words of its arguments, in wire order (specs/Words.antt of method). Numbers are cut to their width.
 pub fn known_command(class: u16, method: u16, arguments: [u64; 8]) -> KnownCommand
     ensures { λ r. ⌜ commandOfKnown r ≡ commandWith class method arguments ⌝ }
 {

@@ -4,22 +4,22 @@ use mathlib.Core.Bool.{Bool, true, false, not}
 use mathlib.Core.Logic.{_⊎_, inl, inr}
 use mathlib.Core.Option.{Option, none, some}
 use mathlib.Core.List.{List, [], _∷_, _++_, map, append-assoc}
-use Prim.Native.Nat.{ℕ, zero, suc, _+_, _-_, _*_, _^_, _%_, _≤_, _<_}
-use native.Mathlib.Nat.{two-pow-succ, mod-lt, mod-eq-of-lt, mod-eq-sub-mod}
+use Prim.Native.Nat.{ℕ, _+_, _-_, _*_, _≤_, _<_}
 use native.Mathlib.Omega.{arith}
 use lib.ListN.{length, take, drop, length-append}
 use lib.Dec.{leb}
-use lib.Pow.{pow-pos}
 use Rattle.types.specs.Answer as answer
 use Rattle.types.specs.Answer.{Refusal, Answer, given, tooLong, noSpace}
 use Rattle.types.specs.Octets as number
 use Rattle.types.specs.Judgement.{test, orElse}
 use Rattle.types.specs.Memory.{splice, Outcome, outcome}
-use Rattle.types.proofs.Tests.{yes-leb, no-leb, decide}
+use Rattle.types.proofs.Tests.{yes-leb, no-leb}
 use Rattle.types.proofs.Splice.{splice-after}
 use Rattle.writers.specs.Writers.{writeAt, writeUint}
 use Rattle.writers.proofs.WriterLaws.{write-full, write-given}
 use Rattle.tables.specs.Letters.{Letters, errata}
+use Rattle.method_words.specs.declared.Call.{Call}
+use Rattle.method_writer.specs.Calls.{writeCall}
 use Rattle.tables.specs.Writing.{body}
 use Rattle.table_writer.specs.Sizes as payload
 use Rattle.table_writer.specs.Emitting.{nextOr, Emitted}
@@ -33,6 +33,7 @@ use Rattle.method.specs.Words.{width, widths, argsFrom, commandFrom, headerFrom
 use Rattle.method.specs.Layout.{fieldOf, layoutFields}
 use Rattle.method.specs.declared.layout.Layout.{Layout}
 use Rattle.method.proofs.LayoutLaws.{known-fields, command-widths, all-present, property-widths}
+use Rattle.method.proofs.MethodLaws.{flags-number}
 use Rattle.method_writer.specs.Sizes.{Size, octets, long, refused, sized, argsMeaning, fieldSize, fieldsSize, octetsOfAll}
 use Rattle.method_writer.specs.Emitting.{Ready}
 use Rattle.method_writer.proofs.SizeLaws.{sized-octets, both, fields-size, no-fields-size, size-small}
@@ -231,29 +232,24 @@ module _ (pool tape : List ℕ) (x : Command Returned) (c m : ℕ) (ws : List �
   unfolding writeCommandPooled
   command-behind at out = command-sent (λ r xs. writeAt r xs at out)
 
+-- A command in words
+
+module _ (letters : Letters) (pool tape : List ℕ) where
+  pub call-known : (x : Call) → known (x .class) (x .method) ≡ true → (at : ℕ) (out : List ℕ)
+      → writeCommandPooled letters pool tape (commandFrom (x .class) (x .method) (x .words)) at out ≡ writeCall letters pool tape x at out
+  unfolding writeCall
+  call-known x k at out = rw k
+
+  pub call-unknown : (x : Call) → known (x .class) (x .method) ≡ false → (at : ℕ) (out : List ℕ)
+      → outcome (answer.refused (answer.unknownMethod (x .class) (x .method))) out ≡ writeCall letters pool tape x at out
+  unfolding writeCall
+  call-unknown x k at out = rw k
+
+  pub call-written : (y : Command Returned) (x : Call) → (y ≡ commandFrom (x .class) (x .method) (x .words)) × (known (x .class) (x .method) ≡ true) → (at : ℕ) (out : List ℕ)
+      → writeCall letters pool tape x at out ≡ writeCommandPooled letters pool tape y at out
+  call-written y x is at out = sym (call-known x (is .1) at out) ∙ ap (λ z. writeCommandPooled letters pool tape z at out) (sym (is .0))
+
 -- A content header with the properties that are present
-
-length-flags : (w n : ℕ) → length (flagsOf w n) ≡ w
-unfolding flagsOf
-length-flags zero n = refl
-length-flags (suc w) n = ap suc (length-flags w (n % 2 ^ w))
-
-flags-number : (w n : ℕ) → n < 2 ^ w → flagsNumber (flagsOf w n) ≡ n
-unfolding flagsOf
-flags-number zero n h = omega arith
-flags-number (suc w) n h =
-    rw (length-flags w (n % 2 ^ w))
-    (decide (leb (2 ^ w) n)
-    (λ e. rw (e, flags-number w (n % 2 ^ w) (mod-lt n (pow-pos w))) (high (2 ^ w) n (yes-leb (2 ^ w) n e) (omega (arith, two-pow-succ w))))
-    (λ e. rw (e, flags-number w (n % 2 ^ w) (mod-lt n (pow-pos w))) (low (2 ^ w) n (no-leb (2 ^ w) n e))))
-  where
-    high : (p n : ℕ) → p ≤ n → n < 2 * p → 1 * p + n % p ≡ n
-    high p n a b =
-        let s : n % p ≡ n - p = mod-eq-sub-mod a ∙ mod-eq-of-lt (omega arith) in
-        omega arith
-
-    low : (p n : ℕ) → n < p → 0 * p + n % p ≡ n
-    low p n a = let s : n % p ≡ n = mod-eq-of-lt a in omega arith
 
 module _ (pool tape : List ℕ) (x : Header Returned) (c n r : ℕ) (ws layout : List ℕ) (is : x ≡ headerFrom c n r ws) (small : r < 8192) (laid : map fieldOf layout ≡ properties) where
   abbrev pub headerFields : List Field

@@ -1,5 +1,7 @@
 // The command writer: class and method, then the fields of their layout. And the judgement alone.
 ghost use mathlib.Core.Path.{_≡_};
+ghost use mathlib.Core.Bool.{true};
+ghost use Prim.Native.Nat.{_≤_};
 ghost use lib.ListN.{length};
 ghost use Rattle.types.specs.Memory.{outcome};
 ghost use Rattle.writers.specs.AnswerOf.{answerOfWritten};
@@ -7,7 +9,11 @@ ghost use Rattle.tables.specs.Letters.{errata};
 ghost use Rattle.table_writer.specs.Sizes.{sized};
 ghost use Rattle.method.specs.Pooled.{commandRefusalPooled, pooledCommandMeaning, writeCommandPooled};
 ghost use Rattle.method.specs.Writing.{commandOctets};
+ghost use Rattle.method.specs.Commands.{commands, fieldsIn, known};
+ghost use Rattle.method.specs.Words.{commandFrom};
+ghost use Rattle.method.specs.Layout.{layoutFields};
 ghost use Rattle.method.specs.AnswerOf.{commandOf};
+ghost use Rattle.method_writer.specs.Calls.{writeCall};
 ghost use Rattle.method_writer.specs.AnswerOf.{answerOfPayloadSize};
 use crate::PayloadSize;
 use crate::emit::emit_fields;
@@ -16,7 +22,9 @@ use crate::emit::next_of;
 use crate::sizes::FieldSize;
 use crate::sizes::size_fields;
 use method::Command;
+use method::layout::Layout;
 use method::layout::layout_of;
+use method_words::Call;
 use method_words::calls::call_of;
 use types::WireError;
 use writers::Written;
@@ -41,19 +49,19 @@ pub fn judge_command(command: Command, pool: &[u8], tape: &[u64]) -> PayloadSize
     }
 }
 
-// Writes a command whose strings are spans of the pool. A table in it is the tape; without one the tape is not read.
-pub fn write_command(
+// Writes a command in words whose class and method are known, by its layout.
+fn write_fields(
     out: &mut [u8],
     at: usize,
-    command: Command,
+    call: Call,
+    layout: Layout,
     pool: &[u8],
     tape: &[u64],
 ) -> Written
-    ensures { λ r. ⌜ outcome (answerOfWritten r) (now (out .exit)) ≡ writeCommandPooled errata (now (pool .entry)) (now (tape .entry)) (commandOf command) at (now (out .entry)) ⌝ }
+    requires { ⌜ (known (call .class) (call .method) ≡ true) × (layoutFields layout ≡ fieldsIn commands (call .class) (call .method)) × (layout .count ≤ 8) ⌝ }
+    ensures { λ r. ⌜ outcome (answerOfWritten r) (now (out .exit)) ≡ writeCommandPooled errata (now (pool .entry)) (now (tape .entry)) (commandFrom (call .class) (call .method) (call .words)) at (now (out .entry)) ⌝ }
 {
-    let call = call_of(command);
     let words = call.words;
-    let layout = layout_of(call.class, call.method);
     let fields = layout.fields;
     let count = layout.count;
     match size_fields(&fields[..count], ALL, &words, pool, tape) {
@@ -69,4 +77,29 @@ pub fn write_command(
             Written::Next(start + n)
         }
     }
+}
+
+// Writes a command in words, of which a number takes the low octets. Its strings are spans of the pool; a table in it is the tape;
+// without one the tape is not read.
+pub fn write_call(out: &mut [u8], at: usize, call: Call, pool: &[u8], tape: &[u64]) -> Written
+    ensures { λ r. ⌜ outcome (answerOfWritten r) (now (out .exit)) ≡ writeCall errata (now (pool .entry)) (now (tape .entry)) call at (now (out .entry)) ⌝ }
+{
+    let layout = layout_of(call.class, call.method);
+    if !layout.known {
+        return Written::Refused(WireError::UnknownMethod(call.class, call.method));
+    }
+    write_fields(out, at, call, layout, pool, tape)
+}
+
+// Writes a command whose strings are spans of the pool. A table in it is the tape; without one the tape is not read.
+pub fn write_command(
+    out: &mut [u8],
+    at: usize,
+    command: Command,
+    pool: &[u8],
+    tape: &[u64],
+) -> Written
+    ensures { λ r. ⌜ outcome (answerOfWritten r) (now (out .exit)) ≡ writeCommandPooled errata (now (pool .entry)) (now (tape .entry)) (commandOf command) at (now (out .entry)) ⌝ }
+{
+    write_call(out, at, call_of(command), pool, tape)
 }

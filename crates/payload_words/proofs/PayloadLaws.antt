@@ -1,9 +1,9 @@
 -- A payload's words as they are put together and taken apart; no command has a class or method of more than 16 bits.
 use mathlib.Core.Path.{_≡_, refl, sym, ap, _∙_}
-use mathlib.Core.Bool.{Bool, true, false, _&&_}
+use mathlib.Core.Bool.{Bool, true, _&&_}
 use mathlib.Core.Logic.{inr}
 use mathlib.Core.Option.{Option, none}
-use mathlib.Core.List.{List, [], _∷_, _++_, append-nil}
+use mathlib.Core.List.{List, [], _∷_, append-nil}
 use Prim.Native.Nat.{ℕ, _+_, _%_, _≤_, _<_}
 use native.Mathlib.Nat.{zero-add}
 use native.Mathlib.Omega.{arith}
@@ -20,22 +20,20 @@ use Rattle.method.specs.Commands.{Row, commands, fieldsIn, known, Command}
 use Rattle.method.specs.Properties.{Header}
 use Rattle.method.specs.Layout.{zeros}
 use Rattle.method.proofs.LayoutLaws.{every}
-use Rattle.method_words.specs.Words.{callOf, headerWords, commandWith, headerWith}
+use Rattle.method_words.specs.Words.{commandWith, headerWith}
 use Rattle.method_words.specs.declared.Call.{Call}
 use Rattle.method_words.specs.declared.HeaderWords.{HeaderWords}
-use Rattle.frame.specs.Step.{command, header}
-use Rattle.payload_words.specs.Words.{payloadWords, commandOr, commandFrom, headerFrom}
+use Rattle.payload_words.specs.Words.{callWords, contentHeaderWords, commandOr, commandFrom, headerFrom}
 
 -- Put together
 
-pub command-put : (x : Command Returned) (r : Call) → length (r .words) ≡ 8 → r ≡ callOf x → splice 3 (r .words) (1 ∷ r .class ∷ r .method ∷ zeros 23) ≡ payloadWords (command x)
+pub call-put : (x : Call) → length (x .words) ≡ 8 → splice 3 (x .words) (1 ∷ x .class ∷ x .method ∷ zeros 23) ≡ callWords x
 unfolding splice
-command-put x r l e = rw l (ap (λ (r : Call). 1 ∷ r .class ∷ r .method ∷ r .words ++ zeros 15) e)
+call-put x l = rw l
 
-pub header-put : (x : Header Returned) (r : HeaderWords) → length (r .words) ≡ 22 → r ≡ headerWords x
-    → splice 4 (r .words) (2 ∷ r .class ∷ r .«body_size» ∷ r .present ∷ zeros 22) ≡ payloadWords (header x)
+pub header-put : (x : HeaderWords) → length (x .words) ≡ 22 → splice 4 (x .words) (2 ∷ x .class ∷ x .«body_size» ∷ x .present ∷ zeros 22) ≡ contentHeaderWords x
 unfolding splice
-header-put x r l e = rw (l, append-nil (r .words)) (ap (λ (r : HeaderWords). 2 ∷ r .class ∷ r .«body_size» ∷ r .present ∷ r .words) e)
+header-put x l = rw (l, append-nil (x .words))
 
 -- Taken apart
 

@@ -12,13 +12,27 @@ use Rattle.method.specs.Commands.{Command}
 use Rattle.method.specs.Properties.{Header}
 use Rattle.method.specs.Layout.{zeros}
 use Rattle.method_words.specs.Words.{callOf, headerWords, commandWith, headerWith}
+use Rattle.method_words.specs.declared.Call.{Call}
+use Rattle.method_words.specs.declared.HeaderWords.{HeaderWords}
 use Rattle.frame.specs.Step.{Payload, command, header, body, heartbeat}
 
+abbrev pub callWords : Call → List ℕ
+callWords x = 1 ∷ x .class ∷ x .method ∷ x .words ++ zeros 15
+
+abbrev pub contentHeaderWords : HeaderWords → List ℕ
+contentHeaderWords x = 2 ∷ x .class ∷ x .«body_size» ∷ x .present ∷ x .words
+
+abbrev pub bodyWords : Span → List ℕ
+bodyWords v = 3 ∷ v .start ∷ v .len ∷ zeros 23
+
+abbrev pub heartbeatWords : List ℕ
+heartbeatWords = 8 ∷ zeros 25
+
 abbrev pub payloadWords : Payload Returned Span → List ℕ
-payloadWords (command x) = 1 ∷ callOf x .class ∷ callOf x .method ∷ callOf x .words ++ zeros 15
-payloadWords (header x) = 2 ∷ headerWords x .class ∷ headerWords x .«body_size» ∷ headerWords x .present ∷ headerWords x .words
-payloadWords (body v) = 3 ∷ v .start ∷ v .len ∷ zeros 23
-payloadWords heartbeat = 8 ∷ zeros 25
+payloadWords (command x) = callWords (callOf x)
+payloadWords (header x) = contentHeaderWords (headerWords x)
+payloadWords (body v) = bodyWords v
+payloadWords heartbeat = heartbeatWords
 
 -- Back: numbers are cut to their width, but for class and method of a command, which then are not known
 

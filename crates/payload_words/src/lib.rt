@@ -5,19 +5,16 @@ ghost use mathlib.Core.Path.{_≡_};
 ghost use Prim.Native.Nat.{_+_, _≤_};
 ghost use lib.ListN.{length};
 ghost use Rattle.types.specs.Memory.{splice};
-ghost use Rattle.method.specs.AnswerOf.{commandOf, headerOf};
-ghost use Rattle.frame.specs.Step as payload;
-ghost use Rattle.frame.specs.AnswerOf.{payloadOf};
-ghost use Rattle.payload_words.specs.Words.{payloadWords, commandFrom, headerFrom, payloadFrom};
+ghost use Rattle.method.specs.AnswerOf.{headerOf};
+ghost use Rattle.payload_words.specs.Words.{callWords, contentHeaderWords, bodyWords, heartbeatWords, commandFrom, headerFrom, payloadFrom};
 ghost use Rattle.payload_words.specs.AnswerOf.{answerOfPayload};
 use frame::Payload;
-use method::Command;
 use method::ContentHeader;
+use method_words::Call;
+use method_words::HeaderWords;
 use method_words::KnownCommand;
-use method_words::calls::call_of;
 use method_words::commands::known_command;
 use method_words::headers::header_of;
-use method_words::properties::header_words;
 use types::Span;
 use types::WireError;
 
@@ -39,10 +36,10 @@ fn put_words(to: &mut [u64], at: usize, from: &[u64])
     }
 }
 
-fn command_words(command: Command) -> [u64; 26]
-    ensures { λ r. ⌜ r ≡ payloadWords (payload.command (commandOf command)) ⌝ }
+// The words of a command.
+pub fn call_words(call: Call) -> [u64; 26]
+    ensures { λ r. ⌜ r ≡ callWords call ⌝ }
 {
-    let call = call_of(command);
     let arguments = call.words;
     let mut words = [0u64; 26];
     words[0] = 1;
@@ -52,40 +49,38 @@ fn command_words(command: Command) -> [u64; 26]
     words
 }
 
-fn content_header_words(header: ContentHeader) -> [u64; 26]
-    ensures { λ r. ⌜ r ≡ payloadWords (payload.header (headerOf header)) ⌝ }
+// The words of a content header.
+pub fn content_header_words(header: HeaderWords) -> [u64; 26]
+    ensures { λ r. ⌜ r ≡ contentHeaderWords header ⌝ }
 {
-    let head = header_words(header);
-    let properties = head.words;
+    let properties = header.words;
     let mut words = [0u64; 26];
     words[0] = 2;
-    words[1] = head.class as u64;
-    words[2] = head.body_size;
-    words[3] = head.present as u64;
+    words[1] = header.class as u64;
+    words[2] = header.body_size;
+    words[3] = header.present as u64;
     put_words(&mut words, 4, &properties);
     words
 }
 
-// The words of a payload.
-pub fn payload_words(payload: Payload) -> [u64; 26]
-    ensures { λ r. ⌜ r ≡ payloadWords (payloadOf payload) ⌝ }
+// The words of a body, which is a span of the octets.
+pub fn body_words(body: Span) -> [u64; 26]
+    ensures { λ r. ⌜ r ≡ bodyWords body ⌝ }
 {
-    match payload {
-        Payload::Command(command) => command_words(command),
-        Payload::Header(header) => content_header_words(header),
-        Payload::Body(span) => {
-            let mut words = [0u64; 26];
-            words[0] = 3;
-            words[1] = span.start as u64;
-            words[2] = span.len as u64;
-            words
-        }
-        Payload::Heartbeat => {
-            let mut words = [0u64; 26];
-            words[0] = 8;
-            words
-        }
-    }
+    let mut words = [0u64; 26];
+    words[0] = 3;
+    words[1] = body.start as u64;
+    words[2] = body.len as u64;
+    words
+}
+
+// The words of a heartbeat.
+pub fn heartbeat_words() -> [u64; 26]
+    ensures { λ r. ⌜ r ≡ heartbeatWords ⌝ }
+{
+    let mut words = [0u64; 26];
+    words[0] = 8;
+    words
 }
 
 // Class and method as they stand: more than 16 bits are no command's.

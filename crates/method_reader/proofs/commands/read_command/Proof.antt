@@ -1,67 +1,74 @@
--- `method_reader::commands::read_command` meets its contract. Assumes nothing.
-use mathlib.Core.Path.{sym, ap, _∙_}
-use borrow.Author.Needs.{needs}
-use Rattle.types.specs.AnswerOf.{answerOfU16}
-use Rattle.types.proofs.RoundTrip.{number-move}
 use Rattle.tables.specs.Letters.{errata}
-use Rattle.method_words.proofs.CommandLaws.{layout-known, layout-unknown}
-use Rattle.method_reader.proofs.CommandLaws.{class-refused, method-refused, pair-unknown, pair-known}
+use Rattle.method_reader.proofs.KeptLaws.{call-refused, call-known, call-unknown}
+use borrow.Author.Needs.{needs}
 use Rattle.method_reader.proofs.commands.read_command.Statement.{statement}
 use Rattle.method_reader.proofs.commands.read_command.Tie as tie
+use Rattle.method_reader.proofs.commands.read_command.Reads as reads
+use Rattle.method_reader.proofs.commands.read_command.Lts as lts
+use Rattle.method_reader.proofs.commands.read_call.Reads as read-call-reads
+use Rattle.method_words.proofs.commands.known_command.Reads as known-command-reads
 
-u16-requires : tie.Need-u16-requires
-u16-requires c κs = search needs
+-- src/commands.rt:101:11
+read-call-requires : tie.Need-read-call-requires
+read-call-requires c κs = search needs
 
+-- src/commands.rt:102:27
 enum-known-e : tie.Need-enum-known-e
 enum-known-e c = search needs
 
+-- src/commands.rt:103:25
 enum-known-class : tie.Need-enum-known-class
 enum-known-class c = search needs
 
-u16-requires-2 : tie.Need-u16-requires-2
-u16-requires-2 c κs = search needs
+-- src/commands.rt:104:19
+known-command-requires : tie.Need-known-command-requires
+known-command-requires c κs = search needs
 
-enum-known-e-2 : tie.Need-enum-known-e-2
-enum-known-e-2 c = search needs
+-- src/commands.rt:105:37
+enum-known-command : tie.Need-enum-known-command
+enum-known-command c = search needs
 
-enum-known-method : tie.Need-enum-known-method
-enum-known-method c = search needs
+-- src/commands.rt:108:42
+enum-told : tie.Need-enum-told
+enum-told c = search needs
 
-layout-of-requires : tie.Need-layout-of-requires
-layout-of-requires c κs = search needs
-
-returns : tie.Need-returns
-returns c = let a = c .before .before .before .before .before .before .before .before .before .before .before .before .before .args in pair-unknown errata (a .s .now) (a .at .at) (a .used) (a .tape .now) _ _ (sym (c .before .before .before .before .before .before .before .before .before .before .u16 .ensures) ∙ ap answerOfU16 (c .before .before .before .before .before .before .before .before .class .given .1)) _ _ (sym (c .before .before .before .before .before .before .u162 .ensures) ∙ ap answerOfU16 (c .before .before .before .before .method .given .1)) (layout-unknown (c .before .before .layout-of .result) _ _ (c .before .before .layout-of .ensures .0) (c .if1 .taken))
-
-read-arguments-requires : tie.Need-read-arguments-requires
-read-arguments-requires c κs = let n = number-move 2 _ _ _ _ (sym (c .before .before .before .before .before .before .before .u162 .ensures) ∙ ap answerOfU16 (c .before .before .before .before .before .method .given .1)) in let k = layout-known (c .before .before .before .layout-of .result) _ _ (c .before .before .before .layout-of .ensures .0) (c .before .if1 .left) in (n .1, k .0, k .1, c .before .before .before .layout-of .ensures .1)
-
-returns-2 : tie.Need-returns-2
-returns-2 c = let a = c .before .before .before .before .before .before .args in class-refused errata (a .s .now) (a .at .at) (a .used) (a .tape .now) _ (sym (c .before .before .before .u16 .ensures) ∙ ap answerOfU16 (c .before .e .given .1))
-
-returns-3 : tie.Need-returns-3
-returns-3 c = let a = c .before .before .before .before .before .before .before .before .before .before .args in method-refused errata (a .s .now) (a .at .at) (a .used) (a .tape .now) _ _ (sym (c .before .before .before .before .before .before .before .u16 .ensures) ∙ ap answerOfU16 (c .before .before .before .before .before .class .given .1)) _ (sym (c .before .before .before .u162 .ensures) ∙ ap answerOfU16 (c .before .e2 .given .1))
-
+-- src/commands.rt:97:1
 same-length : tie.Need-same-length
 same-length c = search needs
 
-returns-4 : tie.Need-returns-4
-returns-4 c = let a = c .before .before .before .before .before .before .before .before .before .before .before .before .before .before .before .before .before .args in c .before .before .read-arguments .ensures ∙ pair-known errata (a .s .now) (a .at .at) (a .used) (a .tape .now) _ _ (sym (c .before .before .before .before .before .before .before .before .before .before .before .before .before .before .u16 .ensures) ∙ ap answerOfU16 (c .before .before .before .before .before .before .before .before .before .before .before .before .class .given .1)) _ _ (sym (c .before .before .before .before .before .before .before .before .before .before .u162 .ensures) ∙ ap answerOfU16 (c .before .before .before .before .before .before .before .before .method .given .1)) (layout-known (c .before .before .before .before .before .before .layout-of .result) _ _ (c .before .before .before .before .before .before .layout-of .ensures .0) (c .before .before .before .before .if1 .left) .0)
+-- src/commands.rt:97:1
+returns : tie.Need-returns
+returns c = let a = c .before .before .before .before .before .before .before .before .before .before .args in call-refused errata (a .s .now) (a .at .at) (a .used) (a .tape .now) (λ i. c .before .before .before .before .before .before .before .before .before .shared-slice-known .given i .fits) (c .before .before .before .before .before .read-call .result) _ _ _ (c .before .before .before .before .before .read-call .ensures) _ (c .before .e .given .1)
+
+-- src/commands.rt:97:1
+same-length-2 : tie.Need-same-length-2
+same-length-2 c = search needs
+
+-- src/commands.rt:97:1
+returns-2 : tie.Need-returns-2
+returns-2 c = let a = c .before .before .before .before .before .before .before .before .before .before .before .before .before .before .args in call-known errata (a .s .now) (a .at .at) (a .used) (a .tape .now) (λ i. c .before .before .before .before .before .before .before .before .before .before .before .before .before .shared-slice-known .given i .fits) (c .before .before .before .before .before .before .before .before .before .read-call .result) _ _ _ (c .before .before .before .before .before .before .before .before .before .read-call .ensures) _ _ _ _ (c .before .before .before .before .before .class .given .1) (c .before .before .before .known-command .result) (c .before .before .before .known-command .ensures) _ (c .before .command .given .1)
+
+-- src/commands.rt:97:1
+same-length-3 : tie.Need-same-length-3
+same-length-3 c = search needs
+
+-- src/commands.rt:97:1
+returns-3 : tie.Need-returns-3
+returns-3 c = let a = c .before .before .before .before .before .before .before .before .before .before .before .before .before .args in call-unknown errata (a .s .now) (a .at .at) (a .used) (a .tape .now) (λ i. c .before .before .before .before .before .before .before .before .before .before .before .before .shared-slice-known .given i .fits) (c .before .before .before .before .before .before .before .before .read-call .result) _ _ _ (c .before .before .before .before .before .before .before .before .read-call .ensures) _ _ _ _ (c .before .before .before .before .class .given .1) (c .before .before .known-command .result) (c .before .before .known-command .ensures) (c .enum-told .given .1)
 
 pub read-command-spec : {M : Type 1} → statement M
 read-command-spec =
     tie.close
     (tie.spec
-    u16-requires
+    read-call-requires
     enum-known-e
     enum-known-class
-    u16-requires-2
-    enum-known-e-2
-    enum-known-method
-    layout-of-requires
-    returns
-    read-arguments-requires
-    returns-2
-    returns-3
+    known-command-requires
+    enum-known-command
+    enum-told
     same-length
-    returns-4)
+    returns
+    same-length-2
+    returns-2
+    same-length-3
+    returns-3)

@@ -1,63 +1,54 @@
--- `method_reader::headers::read_content_header` meets its contract. Assumes nothing.
-use mathlib.Core.Path.{sym, ap, _∙_}
-use Rattle.types.specs.AnswerOf.{answerOfU16}
 use Rattle.tables.specs.Letters.{errata}
-use Rattle.method_reader.proofs.PropertyLaws.{class-refused, weight-refused, weight-read}
+use Rattle.method_reader.proofs.KeptLaws.{header-refused, header-made}
 use borrow.Author.Needs.{needs}
 use Rattle.method_reader.proofs.headers.read_content_header.Statement.{statement}
 use Rattle.method_reader.proofs.headers.read_content_header.Tie as tie
+use Rattle.method_reader.proofs.headers.read_content_header.Reads as reads
+use Rattle.method_reader.proofs.headers.read_content_header.Lts as lts
+use Rattle.method_reader.proofs.headers.read_header_words.Reads as read-header-words-reads
+use Rattle.method_words.proofs.headers.header_of.Reads as header-of-reads
 
-u16-requires : tie.Need-u16-requires
-u16-requires c κs = search needs
+-- src/headers.rt:97:11
+read-header-words-requires : tie.Need-read-header-words-requires
+read-header-words-requires c κs = search needs
 
+-- src/headers.rt:98:34
 enum-known-e : tie.Need-enum-known-e
 enum-known-e c = search needs
 
+-- src/headers.rt:99:32
 enum-known-class : tie.Need-enum-known-class
 enum-known-class c = search needs
 
-u16-requires-2 : tie.Need-u16-requires-2
-u16-requires-2 c κs = search needs
+-- src/headers.rt:100:38
+header-of-requires : tie.Need-header-of-requires
+header-of-requires c κs = search needs
 
-enum-known-e-2 : tie.Need-enum-known-e-2
-enum-known-e-2 c = search needs
-
-enum-known-next : tie.Need-enum-known-next
-enum-known-next c = search needs
-
-read-sized-requires : tie.Need-read-sized-requires
-read-sized-requires c κs = search needs
-
-returns : tie.Need-returns
-returns c =
-    let a = c .before .before .before .before .before .before .args in
-    class-refused errata (a .s .now) (a .used) (a .tape .now) (a .at .at) _ (ap answerOfU16 (sym (c .before .e .given .1)) ∙ c .before .before .before .u16 .ensures)
-
-returns-2 : tie.Need-returns-2
-returns-2 c =
-    let a = c .before .before .before .before .before .before .before .before .before .before .args in
-    weight-refused errata (a .s .now) (a .used) (a .tape .now) (a .at .at) _ _ _ (ap answerOfU16 (sym (c .before .before .before .before .before .class .given .1)) ∙ c .before .before .before .before .before .before .before .u16 .ensures) (ap answerOfU16 (sym (c .before .e2 .given .1)) ∙ c .before .before .before .u162 .ensures)
-
+-- src/headers.rt:93:1
 same-length : tie.Need-same-length
 same-length c = search needs
 
-returns-3 : tie.Need-returns-3
-returns-3 c =
-    let a = c .before .before .before .before .before .before .before .before .before .before .before .before .before .before .args in
-    c .before .before .read-sized .ensures ∙ weight-read errata (a .s .now) (a .used) (a .tape .now) (a .at .at) _ _ _ _ (ap answerOfU16 (sym (c .before .before .before .before .before .before .before .before .before .class .given .1)) ∙ c .before .before .before .before .before .before .before .before .before .before .before .u16 .ensures) (ap answerOfU16 (sym (c .before .before .before .before .before .next .given .1)) ∙ c .before .before .before .before .before .before .before .u162 .ensures)
+-- src/headers.rt:93:1
+returns : tie.Need-returns
+returns c = let a = c .before .before .before .before .before .before .before .before .before .before .args in header-refused errata (a .s .now) (a .at .at) (a .used) (a .tape .now) (λ i. c .before .before .before .before .before .before .before .before .before .shared-slice-known .given i .fits) (c .before .before .before .before .before .read-header-words .result) _ _ _ (c .before .before .before .before .before .read-header-words .ensures) _ (c .before .e .given .1)
+
+-- src/headers.rt:93:1
+same-length-2 : tie.Need-same-length-2
+same-length-2 c = search needs
+
+-- src/headers.rt:93:1
+returns-2 : tie.Need-returns-2
+returns-2 c = let a = c .before .before .before .before .before .before .before .before .before .before .before .args in header-made errata (a .s .now) (a .at .at) (a .used) (a .tape .now) (λ i. c .before .before .before .before .before .before .before .before .before .before .shared-slice-known .given i .fits) (c .before .before .before .before .before .before .read-header-words .result) _ _ _ (c .before .before .before .before .before .before .read-header-words .ensures) _ _ _ _ _ _ (c .before .before .class .given .1) (c .header-of .ensures)
 
 pub read-content-header-spec : {M : Type 1} → statement M
 read-content-header-spec =
     tie.close
     (tie.spec
-    u16-requires
+    read-header-words-requires
     enum-known-e
     enum-known-class
-    u16-requires-2
-    enum-known-e-2
-    enum-known-next
-    read-sized-requires
-    returns
-    returns-2
+    header-of-requires
     same-length
-    returns-3)
+    returns
+    same-length-2
+    returns-2)
