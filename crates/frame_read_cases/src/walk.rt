@@ -142,6 +142,20 @@ fn judge(w: Walked, tape: &[u64], register: &[u64], out: &mut [u8], at: usize) -
     records(tape, count, out, with_entries)
 }
 
+fn walk_lent(s: &[u8], tape: &mut [u64], register: &mut [u64], out: &mut [u8], at: usize) -> usize
+    ensures { λ r. ⌜ r ≤ length (now (out .entry)) ⌝ }
+{
+    lent::fill_words(tape);
+    lent::fill_words(register);
+    let w = walk(s, tape, register);
+    judge(w, tape, register, out, at)
+}
+
+// Whether the fields are those of a case, and its words can be lent.
+fn is_case(marks: &[usize], n: usize, m: usize) -> bool {
+    line::fields(marks) == 4 && n != 0 && m != 0
+}
+
 // The numbers of records and of entries that are lent, then the octets.
 pub fn answer(
     octets: &[u8],
@@ -155,12 +169,9 @@ pub fn answer(
 {
     let n = tape_words(line::number(octets, marks, 1), tape.len());
     let m = register_words(line::number(octets, marks, 2), register.len());
-    if line::fields(marks) != 4 || n == 0 || m == 0 {
+    if !is_case(marks, n, m) {
         return print::put(out, at, b'?');
     }
     let s = line::field(octets, marks, 3);
-    lent::fill_words(&mut tape[0..n]);
-    lent::fill_words(&mut register[0..m]);
-    let w = walk(s, &mut tape[0..n], &mut register[0..m]);
-    judge(w, &tape[0..n], &register[0..m], out, at)
+    walk_lent(s, &mut tape[0..n], &mut register[0..m], out, at)
 }

@@ -45,11 +45,11 @@ fn encode_lent(
     if lent.len() < space {
         return Outcome::NoCase;
     }
+    let part = &mut lent[0..space];
+    lent::fill(part);
     let channel = number16(octets, marks, 2);
     let payload = line::field(octets, marks, 3);
-    lent::fill(&mut lent[0..space]);
-    let w = encode(&mut lent[0..space], 0, frame_type, channel, payload);
-    Outcome::Answered(w, space)
+    Outcome::Answered(encode(part, 0, frame_type, channel, payload), space)
 }
 
 // 32: type, channel, payload.
@@ -76,10 +76,10 @@ fn write_lent(
     if lent.len() < n {
         return Outcome::NoCase;
     }
+    let part = &mut lent[0..n];
+    lent::fill(part);
     let channel = number16(octets, marks, 1);
-    lent::fill(&mut lent[0..n]);
-    let w = write_frame(&mut lent[0..n], 0, channel, payload, octets, tape);
-    Outcome::Answered(w, n)
+    Outcome::Answered(write_frame(part, 0, channel, payload, octets, tape), n)
 }
 
 fn outcome_of_payload(

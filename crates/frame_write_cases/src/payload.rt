@@ -1,6 +1,4 @@
 // What a frame is written from: channel, type, and the fields of the payload.
-use frame::FrameType;
-use frame::KnownType;
 use frame::Payload;
 use lines::line;
 use method_write_cases::arguments::fits;
@@ -25,48 +23,51 @@ fn of_header(case: HeaderCase) -> PayloadCase {
     }
 }
 
-// A payload that has no table, from the type and the fields behind it.
-fn without_table(frame_type: FrameType, octets: &[u8], marks: &[usize]) -> PayloadCase {
-    let count = line::fields(marks);
-    match frame_type {
-        FrameType::Body => {
-            if count != 2 {
-                return PayloadCase::None;
-            }
-            PayloadCase::Payload(Payload::Body(span(marks, 1)), 0)
-        }
-        FrameType::Heartbeat => {
-            if count != 1 {
-                return PayloadCase::None;
-            }
-            PayloadCase::Payload(Payload::Heartbeat, 0)
-        }
-        _ => {
-            if !is_command(octets, marks) {
-                return PayloadCase::None;
-            }
-            PayloadCase::Payload(Payload::Command(command(octets, marks)), 0)
-        }
+fn of_body(marks: &[usize]) -> PayloadCase {
+    if line::fields(marks) != 2 {
+        return PayloadCase::None;
     }
+    PayloadCase::Payload(Payload::Body(span(marks, 1)), 0)
 }
 
-// Whether there are a channel and an octet for the type.
-fn has_type(octets: &[u8], marks: &[usize]) -> bool {
-    fits(octets, marks, 1, b'H') && fits(octets, marks, 2, b'o')
+fn of_heartbeat(marks: &[usize]) -> PayloadCase {
+    if line::fields(marks) != 1 {
+        return PayloadCase::None;
+    }
+    PayloadCase::Payload(Payload::Heartbeat, 0)
+}
+
+fn of_command(octets: &[u8], marks: &[usize]) -> PayloadCase {
+    if !is_command(octets, marks) {
+        return PayloadCase::None;
+    }
+    PayloadCase::Payload(Payload::Command(command(octets, marks)), 0)
+}
+
+// The type of a case, as far as channel and type are there; 0 where they are not.
+fn type_of(octets: &[u8], marks: &[usize]) -> u8 {
+    if !fits(octets, marks, 1, b'H') {
+        return 0;
+    }
+    if fits(octets, marks, 2, b'o') {
+        octet(octets, marks, 2)
+    } else {
+        0
+    }
 }
 
 // The fields of 43: those from the type on have their places as those of 30 and 31 from the operation on.
 pub(crate) fn payload_case(octets: &[u8], marks: &[usize], tape: &mut [u64]) -> PayloadCase {
-    if marks.len() < 3 || !has_type(octets, marks) {
+    if marks.len() < 3 {
         return PayloadCase::None;
     }
     let fields = &marks[2..];
-    match FrameType::from_u8(octet(octets, marks, 2)) {
-        KnownType::Unknown => PayloadCase::None,
-        KnownType::Known(frame_type) => match frame_type {
-            FrameType::Header => of_header(header_case(octets, fields, tape)),
-            _ => without_table(frame_type, octets, fields),
-        },
+    match type_of(octets, marks) {
+        1 => of_command(octets, fields),
+        2 => of_header(header_case(octets, fields, tape)),
+        3 => of_body(fields),
+        8 => of_heartbeat(fields),
+        _ => PayloadCase::None,
     }
 }
 
@@ -76,14 +77,11 @@ pub(crate) fn repeated_payload_case(
     marks: &[usize],
     tape: &mut [u64],
 ) -> PayloadCase {
-    if marks.len() < 3 || !has_type(octets, marks) {
+    if marks.len() < 3 {
         return PayloadCase::None;
     }
-    match FrameType::from_u8(octet(octets, marks, 2)) {
-        KnownType::Unknown => PayloadCase::None,
-        KnownType::Known(frame_type) => match frame_type {
-            FrameType::Header => of_header(repeated_header_case(octets, &marks[2..], tape)),
-            _ => PayloadCase::None,
-        },
+    if type_of(octets, marks) != 2 {
+        return PayloadCase::None;
     }
+    of_header(repeated_header_case(octets, &marks[2..], tape))
 }

@@ -8,19 +8,33 @@ use frame_write_cases::writing;
 use lines::line;
 use lines::written;
 
+const READING: u8 = 1;
+
+const WRITING: u8 = 2;
+
+const REPLY: u8 = 3;
+
+// What an operation does. It stands alone, since a proof of a call goes through each pattern before it.
+fn kind_of(op: u8) -> u8 {
+    match op {
+        0x01..=0x02 | 0x06..=0x07 | 0x40..=0x42 | 0x51 => READING,
+        0x30..=0x34 | 0x36..=0x37 | 0x43 | 0x50 | 0x52 => WRITING,
+        0x20..=0x28 => REPLY,
+        _ => 0,
+    }
+}
+
 // Operations that read tables, commands, content headers and frames.
 fn reading(
     op: u8,
     octets: &[u8],
     marks: &[usize],
     tape: &mut [u64],
-    register: &mut [u64],
     out: &mut [u8],
     at: usize,
 ) -> usize {
     match op {
         0x06 => decode::answer(octets, marks, out, at),
-        0x41 => walk::answer(octets, marks, tape, register, out, at),
         0x51 => lending::with_room(octets, marks, tape, out, at),
         _ => lending::answer(op, octets, marks, tape, out, at),
     }
@@ -28,11 +42,13 @@ fn reading(
 
 // Operations that are lent nothing.
 fn others(op: u8, octets: &[u8], marks: &[usize], out: &mut [u8], at: usize) -> usize {
-    match op {
-        0x20..=0x28 => reply_cases::answer(op, octets, marks, out, at),
-        0x29 => frame_write_cases::answer_protocol_header(marks, out, at),
-        _ => cases::answer(op, octets, marks, out, at),
+    if kind_of(op) == REPLY {
+        return reply_cases::answer(op, octets, marks, out, at);
     }
+    if op == 0x29 {
+        return frame_write_cases::answer_protocol_header(marks, out, at);
+    }
+    cases::answer(op, octets, marks, out, at)
 }
 
 fn operation(
@@ -45,16 +61,18 @@ fn operation(
     at: usize,
 ) -> usize {
     let op = line::operation(octets, marks);
-    match op {
-        0x01..=0x02 | 0x06..=0x07 | 0x40..=0x42 | 0x51 => {
-            reading(op, octets, marks, tape, register, out, at)
-        }
-        0x30..=0x34 | 0x36..=0x37 | 0x43 | 0x50 | 0x52 => {
-            let outcome = writing::outcome(op, octets, marks, lent, tape);
-            written::answer(outcome, lent, out, at)
-        }
-        _ => others(op, octets, marks, out, at),
+    let kind = kind_of(op);
+    if op == 0x41 {
+        return walk::answer(octets, marks, tape, register, out, at);
     }
+    if kind == READING {
+        return reading(op, octets, marks, tape, out, at);
+    }
+    if kind == WRITING {
+        let outcome = writing::outcome(op, octets, marks, lent, tape);
+        return written::answer(outcome, lent, out, at);
+    }
+    others(op, octets, marks, out, at)
 }
 
 // Answers the line that the first `n` octets of `line` are, of up to 32 fields.

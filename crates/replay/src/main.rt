@@ -2,6 +2,8 @@
 mod answers;
 mod input;
 
+ghost use mathlib.Core.Path.{_≡_};
+ghost use lib.ListN.{length};
 use crate::input::is_line;
 use crate::input::next_line;
 
@@ -25,14 +27,39 @@ fn replay(
     print::flush(out, pending);
 }
 
-// Buffers are made once: one that is made for each case would be cleared for each case.
+// Buffers are made once: one that is made for each case would be cleared for each case. A contract gives only the length, which
+// lending the array as a slice needs.
+fn empty_line() -> [u8; 400_000]
+    ensures { λ r. ⌜ 400000 ≡ length r ⌝ }
+{
+    [0; 400_000]
+}
+
+fn empty_lent() -> [u8; 262_144]
+    ensures { λ r. ⌜ 262144 ≡ length r ⌝ }
+{
+    [0; 262_144]
+}
+
+fn empty_tape() -> [u64; 393_225]
+    ensures { λ r. ⌜ 393225 ≡ length r ⌝ }
+{
+    [0; 393_225]
+}
+
+fn empty_register() -> [u64; 75_002]
+    ensures { λ r. ⌜ 75002 ≡ length r ⌝ }
+{
+    [0; 75_002]
+}
+
 fn main() {
     let mut part = io::large_buffer();
-    let mut line = [0u8; 400_000];
-    let mut lent = [0u8; 262_144];
-    let mut tape = [0u64; 393_225];
-    let mut register = [0u64; 75_002];
-    let mut out = [0u8; 65_536];
+    let mut line = empty_line();
+    let mut lent = empty_lent();
+    let mut tape = empty_tape();
+    let mut register = empty_register();
+    let mut out = io::large_buffer();
     replay(
         &mut part,
         &mut line,
