@@ -10,7 +10,6 @@ use lib.Dec.{lit<, leb, eqb}
 use lib.ListN.{length, take, drop, length-append, length-drop}
 use lib.Seq.{take-append-seam}
 use Rattle.types.specs.Answer.{Refusal, Answer, given, refused, notWritten}
-use Rattle.types.specs.AnswerOf.{refusal}
 use Rattle.types.specs.Memory.{Outcome, outcome}
 use Rattle.types.specs.declared.Cursor.{Cursor}
 use Rattle.types.specs.declared.Span.{Span}
@@ -23,20 +22,20 @@ use Rattle.tables.specs.Tape.{WithTape, WithCount, roomOf, recordsOnly}
 use Rattle.method.specs.Fields.{Located, Returned}
 use Rattle.method.specs.Commands.{fieldsOf, Command, call}
 use Rattle.method.specs.Properties.{Header}
-use Rattle.method.specs.Reading.{commandAt, headerAt, commandWithTape, headerWithTape, readCommand, readHeader}
+use Rattle.method.specs.Reading.{commandAt, headerAt, commandWithTape, headerWithTape}
 use Rattle.method.specs.Layout.{zeros}
 use Rattle.method.specs.Words.{argsWords}
 use Rattle.method.proofs.LayoutLaws.{command-widths}
 use Rattle.method.proofs.WordLaws.{length-words}
 use Rattle.method_words.specs.Words.{callOf, headerWords, commandWith, headerWith}
 use Rattle.method_words.specs.InWords.{WordsOutcome, wordsOutcome, inWords}
-use Rattle.method_words.proofs.InWordsLaws.{refused-too, ReadToo, read-too}
+use Rattle.method_words.proofs.InWordsLaws.{at-case, refused-too, ReadToo, read-too}
 use Rattle.method_reader.proofs.KeptLaws.{filled-value, command-kept, header-kept}
 use Rattle.payload_words.specs.Words.{callWords, contentHeaderWords, payloadWords, commandOr, payloadFrom}
 use Rattle.payload_words.specs.AnswerOf.{answerOfPayload}
 use Rattle.payload_words.specs.declared.PayloadFrom.{PayloadFrom}
 use Rattle.payload_words.specs.declared.PayloadFrom.the-variants as from
-use Rattle.frame.specs.Frame.{Frame, decodeAt}
+use Rattle.frame.specs.Frame.{decodeAt}
 use Rattle.frame.specs.Step.{Payload, command, header, body, heartbeat, FrameOf, payloadWithTape, payloadAt, frameWithPayloadAt, stepAt, readFrame}
 use Rattle.frame.specs.AnswerOf.{payloadOf}
 use Rattle.frame.specs.declared.Payload.{Payload as CodePayload}
@@ -44,7 +43,7 @@ use Rattle.frame_reader.specs.Words.{FrameWords, frameWords, withChannel
 use Rattle.frame_reader.specs.AnswerOf.{answerOfFrameWords}
 use Rattle.frame_reader.specs.declared.ReadFrameWords.{ReadFrameWords}
 use Rattle.frame_reader.specs.declared.ReadFrameWords.the-variants as frame-read
-use Rattle.frame_reader.proofs.StepLaws.{framed, records-framed, frameRead, withHeader, withCommand, method-read, header-read}
+use Rattle.frame_reader.proofs.StepLaws.{framed, records-framed}
 
 -- A payload's words, from those that its reader was lent
 
@@ -57,11 +56,6 @@ module _ {A B : Type 0} (f : A → B) (words put : B → List ℕ) (lent before 
   put-read b k n p e h =
       let x = read-too f words lent o b k n w t e in
       rw (x .read) (ap (λ (p : List ℕ). wordsOutcome (given (record { value = p; count = k }) n) p t) (h ∙ ap put (x .made)))
-
--- from the case of an answer that a match has found
-pub at-case : {R B : Type 0} (answerOf : R → List ℕ → Answer (WithCount B)) {r k : R} {w t : List ℕ} {y : WordsOutcome B} → wordsOutcome (answerOf r w) w t ≡ y → r ≡ k
-    → wordsOutcome (answerOf k w) w t ≡ y
-at-case answerOf {w = w} {t = t} e q = ap (λ k. wordsOutcome (answerOf k w) w t) (sym q) ∙ e
 
 -- The frame, from its payload
 
@@ -78,32 +72,14 @@ put-framed f next before p t whole e h =
 abbrev channelled : ℕ → ℕ → WordsOutcome (List ℕ) → WordsOutcome FrameWords
 channelled channel next (wordsOutcome a w t) = wordsOutcome (withChannel channel next a) w t
 
-module _ (letters : Letters) (s : List ℕ) (frame : Frame) (next used : ℕ) (tape before : List ℕ) (a : Answer (WithCount (List ℕ))) (w t : List ℕ) where
-  abbrev here : List ℕ
-  here = take (frame .payload .start + frame .payload .len) s
-
-  abbrev Framed : Type 0
-  Framed = wordsOutcome (withChannel (frame .channel) next a) w t ≡ inWords frameWords (λ x. x .payload) before (frameRead letters s frame next used tape)
-
-  pub method-words : frame .type ≡ 1 → wordsOutcome a w t ≡ inWords (λ x. callWords (callOf x)) (λ p. p) before (readCommand letters here (frame .payload .start) used tape) → Framed
-  method-words y e =
-      let o = readCommand letters here (frame .payload .start) used tape in
-      ap (channelled (frame .channel) next) e ∙ go o ∙ ap (inWords frameWords (λ x. x .payload) before) (sym (method-read letters s frame next used tape y))
-    where
-      go : (o : Outcome (WithCount (Command Returned))) → channelled (frame .channel) next (inWords (λ x. callWords (callOf x)) (λ p. p) before o)
-          ≡ inWords frameWords (λ x. x .payload) before (framed (withCommand letters s frame next used tape) next o)
-      go (outcome (given x n) m) = refl
-      go (outcome (refused r) m) = refl
-
-  pub header-words : frame .type ≡ 2 → wordsOutcome a w t ≡ inWords (λ x. contentHeaderWords (headerWords x)) (λ p. p) before (readHeader letters here (frame .payload .start) used tape) → Framed
-  header-words y e =
-      let o = readHeader letters here (frame .payload .start) used tape in
-      ap (channelled (frame .channel) next) e ∙ go o ∙ ap (inWords frameWords (λ x. x .payload) before) (sym (header-read letters s frame next used tape y))
-    where
-      go : (o : Outcome (WithCount (Header Returned))) → channelled (frame .channel) next (inWords (λ x. contentHeaderWords (headerWords x)) (λ p. p) before o)
-          ≡ inWords frameWords (λ x. x .payload) before (framed (withHeader letters s frame next used tape) next o)
-      go (outcome (given x n) m) = refl
-      go (outcome (refused r) m) = refl
+pub framed-words : {A : Type 0} (put : A → List ℕ) (f : A → FrameOf Returned Span) (channel next : ℕ) (before : List ℕ) (o : Outcome (WithCount A)) {whole : Outcome (WithCount (FrameOf Returned Span))} {a : Answer (WithCount (List ℕ))} {w t : List ℕ}
+    → whole ≡ framed f next o → ((x : A) → frameWords (f x) ≡ record { channel = channel; payload = put x }) → wordsOutcome a w t ≡ inWords put (λ p. p) before o
+    → wordsOutcome (withChannel channel next a) w t ≡ inWords frameWords (λ x. x .payload) before whole
+framed-words put f channel next before o h same e = ap (channelled channel next) e ∙ go o ∙ ap (inWords frameWords (λ x. x .payload) before) (sym h)
+  where
+    go : (o : Outcome (WithCount _)) → channelled channel next (inWords put (λ p. p) before o) ≡ inWords frameWords (λ x. x .payload) before (framed f next o)
+    go (outcome (given x n) m) = ap (λ (y : FrameWords). wordsOutcome (given (record { value = y; count = x .count }) next) (y .payload) m) (sym (same (x .value)))
+    go (outcome (refused r) m) = refl
 
 -- The number of records, from a reader in words
 
@@ -198,15 +174,11 @@ frame-kept letters s at used tape o x k n memory e =
 
 module _ (letters : Letters) (s : List ℕ) (at used : ℕ) (tape : List ℕ) (r : ReadFrameWords) (w t before : List ℕ)
     (h : wordsOutcome (answerOfFrameWords r w) w t ≡ inWords frameWords (λ x. x .payload) before (readFrame letters s at used tape)) where
-  pub frame-refused : (e : WireError) → r ≡ frame-read.Refused e → outcome (refused (refusal e)) t ≡ readFrame letters s at used tape
-  frame-refused e same =
-      refused-too frameWords (λ x. x .payload) before (readFrame letters s at used tape) (refusal e) w t (ap (λ (x : ReadFrameWords). wordsOutcome (answerOfFrameWords x w) w t) (sym same) ∙ h)
-
   module _ (channel k : ℕ) (next : Cursor) (same : r ≡ frame-read.Value channel k next) (p : PayloadFrom) (made : answerOfPayload p ≡ payloadFrom w) where
     read : ReadToo frameWords (readFrame letters s at used tape) (record { channel = channel; payload = w }) k (next .at) t
     read =
         read-too frameWords (λ x. x .payload) before (readFrame letters s at used tape) (record { channel = channel; payload = w }) k (next .at) w t
-        (ap (λ (x : ReadFrameWords). wordsOutcome (answerOfFrameWords x w) w t) (sym same) ∙ h)
+        (at-case answerOfFrameWords h same)
 
     words : w ≡ payloadWords (read .value .payload)
     words = ap (λ (x : FrameWords). x .payload) (read .made)

@@ -9,9 +9,7 @@ use lib.ListN.{length, drop}
 use lib.Dec.{leb}
 use Rattle.types.specs.Answer.{Answer, given, refused, notWritten, unknownMethod, andThen}
 use Rattle.types.specs.Memory.{outcome}
-use Rattle.types.specs.AnswerOf.{refusal}
 use Rattle.types.specs.Octets.{uintAt}
-use Rattle.types.specs.declared.WireError.{WireError}
 use Rattle.types.specs.declared.Cursor.{Cursor}
 use Rattle.types.proofs.Chain.{then-go, need-given, given-value, given-next}
 use Rattle.types.proofs.NumberLaws.{Octets, uintAt-lt}
@@ -33,7 +31,7 @@ use Rattle.method_words.specs.declared.Call.{Call}
 use Rattle.method_words.specs.declared.HeaderWords.{HeaderWords}
 use Rattle.method_words.specs.declared.KnownCommand.{KnownCommand}
 use Rattle.method_words.specs.declared.KnownCommand.the-variants.{Known, Unknown}
-use Rattle.method_words.proofs.InWordsLaws.{refused-too, ReadToo, read-too}
+use Rattle.method_words.proofs.InWordsLaws.{at-case, ReadToo, read-too}
 use Rattle.method_reader.specs.AnswerOf.{answerOfCall, answerOfHeaderWords}
 use Rattle.method_reader.specs.declared.ReadCall.{ReadCall}
 use Rattle.method_reader.specs.declared.ReadCall.the-variants as call-read
@@ -121,16 +119,10 @@ module _ (letters : Letters) (s : List ℕ) (at used : ℕ) (tape : List ℕ) (o
   -- the readers, from what their readers in words answer
 
   module _ (r : ReadCall) (w t before : List ℕ) (h : wordsOutcome (answerOfCall r w) w t ≡ inWords callOf (λ x. x .words) before (readCommand letters s at used tape)) where
-    pub call-refused : (e : WireError) → r ≡ call-read.Refused e → outcome (refused (refusal e)) t ≡ readCommand letters s at used tape
-    call-refused e same =
-        let h1 = ap (λ (x : ReadCall). wordsOutcome (answerOfCall x w) w t) (sym same) ∙ h in
-        refused-too callOf (λ x. x .words) before (readCommand letters s at used tape) (refusal e) w t h1
-
     module _ (c m k : ℕ) (next : Cursor) (same : r ≡ call-read.Value c m k next) (x : KnownCommand) (made : commandOfKnown x ≡ commandWith c m w) where
       read-call : ReadToo callOf (readCommand letters s at used tape) (record { class = c; method = m; words = w }) k (next .at) t
       read-call =
-          let h1 = ap (λ (x : ReadCall). wordsOutcome (answerOfCall x w) w t) (sym same) ∙ h in
-          read-too callOf (λ x. x .words) before (readCommand letters s at used tape) (record { class = c; method = m; words = w }) k (next .at) w t h1
+          read-too callOf (λ x. x .words) before (readCommand letters s at used tape) (record { class = c; method = m; words = w }) k (next .at) w t (at-case answerOfCall h same)
 
       is-known : commandOfKnown x ≡ some (read-call .value)
       is-known =
@@ -147,16 +139,10 @@ module _ (letters : Letters) (s : List ℕ) (at used : ℕ) (tape : List ℕ) (o
       call-unknown e = let there = ap commandOfKnown (sym e) ∙ is-known in let z : _≡_ {A = ℕ} 0 1 = cc in absurd (omega arith)
 
   module _ (r : ReadHeaderWords) (w t before : List ℕ) (h : wordsOutcome (answerOfHeaderWords r w) w t ≡ inWords headerWords (λ x. x .words) before (readHeader letters s at used tape)) where
-    pub header-refused : (e : WireError) → r ≡ header-read.Refused e → outcome (refused (refusal e)) t ≡ readHeader letters s at used tape
-    header-refused e same =
-        let h1 = ap (λ (x : ReadHeaderWords). wordsOutcome (answerOfHeaderWords x w) w t) (sym same) ∙ h in
-        refused-too headerWords (λ x. x .words) before (readHeader letters s at used tape) (refusal e) w t h1
-
     pub header-made : (c n p k : ℕ) (next : Cursor) (y : Header Returned) → r ≡ header-read.Value c n p k next → y ≡ headerWith c n (p % 8192) w
         → outcome (given (record { value = y; count = k }) (next .at)) t ≡ readHeader letters s at used tape
     header-made c n p k next y same made =
-        let h1 = ap (λ (x : ReadHeaderWords). wordsOutcome (answerOfHeaderWords x w) w t) (sym same) ∙ h in
-        let x = read-too headerWords (λ x. x .words) before (readHeader letters s at used tape) (record { class = c; «body_size» = n; present = p; words = w }) k (next .at) w t h1 in
+        let x = read-too headerWords (λ x. x .words) before (readHeader letters s at used tape) (record { class = c; «body_size» = n; present = p; words = w }) k (next .at) w t (at-case answerOfHeaderWords h same) in
         let value : y ≡ x .value
         = made ∙ ap (λ (v : HeaderWords). headerWith (v .class) (v .«body_size») (v .present % 8192) (v .words)) (x .made) ∙ read-header-kept (x .value) k (next .at) t (x .read) in
         rw value (sym (x .read))

@@ -1,5 +1,5 @@
 -- A reader in words, beside the reader whose answer it gives: what the one has answered, the other has too.
-use mathlib.Core.Path.{_≡_, ap}
+use mathlib.Core.Path.{_≡_, sym, ap, _∙_}
 use mathlib.Core.List.{List}
 use Prim.Native.Nat.{ℕ}
 use native.Mathlib.Omega.{arith}
@@ -14,6 +14,11 @@ answerIn (wordsOutcome a w t) = a
 
 abbrev tapeIn : {B : Type 0} → WordsOutcome B → List ℕ
 tapeIn (wordsOutcome a w t) = t
+
+-- from the case of an answer that a match has found
+pub at-case : {R B : Type 0} (answerOf : R → List ℕ → Answer (WithCount B)) {r k : R} {w t : List ℕ} {y : WordsOutcome B} → wordsOutcome (answerOf r w) w t ≡ y → r ≡ k
+    → wordsOutcome (answerOf k w) w t ≡ y
+at-case answerOf {w = w} {t = t} e q = ap (λ k. wordsOutcome (answerOf k w) w t) (sym q) ∙ e
 
 -- what was read in words is made of what was read
 pub record ReadToo {A B : Type 0} (f : A → B) (o : Outcome (WithCount A)) (b : B) (k n : ℕ) (t : List ℕ) : Type 0 where

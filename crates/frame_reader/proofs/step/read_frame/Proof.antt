@@ -1,6 +1,10 @@
 use Rattle.tables.specs.Letters.{errata}
 use Rattle.method.specs.Layout.{zeros}
-use Rattle.frame_reader.proofs.WordLaws.{frame-refused, frame-made, frame-unmade}
+use Rattle.frame_reader.proofs.WordLaws.{frame-made, frame-unmade}
+use Rattle.frame.specs.Step.{readFrame}
+use Rattle.method_words.proofs.InWordsLaws.{at-case, refused-too}
+use Rattle.frame_reader.specs.Words.{frameWords}
+use Rattle.frame_reader.specs.AnswerOf.{answerOfFrameWords}
 use borrow.Author.Needs.{needs}
 use Rattle.frame_reader.proofs.step.read_frame.Statement.{statement}
 use Rattle.frame_reader.proofs.step.read_frame.Tie as tie
@@ -39,7 +43,7 @@ same-length c = search needs
 
 -- src/step.rt:15:1
 returns : tie.Need-returns
-returns c = let a = c .before .before .before .before .before .before .before .before .before .before .args in frame-refused errata (a .s .now) (a .at .at) (a .used) (a .tape .now) (c .before .before .before .before .before .read-frame-words .result) _ _ (zeros 26) (c .before .before .before .before .before .read-frame-words .ensures) _ (c .before .e .given .1)
+returns c = let a = c .before .before .before .before .before .before .before .before .before .before .args in refused-too frameWords (λ x. x .payload) (zeros 26) (readFrame errata (a .s .now) (a .at .at) (a .used) (a .tape .now)) _ _ _ (at-case answerOfFrameWords (c .before .before .before .before .before .read-frame-words .ensures) (c .before .e .given .1))
 
 -- src/step.rt:15:1
 same-length-2 : tie.Need-same-length-2

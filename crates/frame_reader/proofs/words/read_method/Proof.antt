@@ -4,7 +4,8 @@ use Rattle.method.specs.Layout.{zeros}
 use Rattle.method_words.specs.Words.{callOf}
 use Rattle.method_reader.specs.AnswerOf.{answerOfCall}
 use Rattle.payload_words.specs.Words.{callWords}
-use Rattle.frame_reader.proofs.WordLaws.{put-refused, put-read, at-case}
+use Rattle.frame_reader.proofs.WordLaws.{put-refused, put-read}
+use Rattle.method_words.proofs.InWordsLaws.{at-case}
 use borrow.Author.Needs.{needs}
 use Rattle.frame_reader.proofs.words.read_method.Statement.{statement}
 use Rattle.frame_reader.proofs.words.read_method.Tie as tie

@@ -1,4 +1,4 @@
-use mathlib.Core.Path.{sym, ap}
+use mathlib.Core.Path.{refl, sym, ap}
 use native.Mathlib.Omega.{arith}
 use lib.Seq.{length-take-le}
 use Rattle.tables.specs.Letters.{errata}
@@ -6,8 +6,13 @@ use Rattle.method_words.specs.InWords.{inWords}
 use Rattle.frame.specs.Step.{body, heartbeat}
 use Rattle.frame.specs.AnswerOf.{typeOctet, frameOf}
 use Rattle.frame_reader.specs.Words.{frameWords}
-use Rattle.frame_reader.proofs.StepLaws.{body-read, heartbeat-read, heartbeat-refused}
-use Rattle.frame_reader.proofs.WordLaws.{of-frame, put-framed, method-words, header-words}
+use Rattle.frame_reader.proofs.StepLaws.{withCommand, withHeader, method-read, header-read, body-read, heartbeat-read, heartbeat-refused}
+use Rattle.frame_reader.proofs.WordLaws.{of-frame, put-framed, framed-words}
+use Prim.Native.Nat.{_+_}
+use lib.ListN.{take}
+use Rattle.method.specs.Reading.{readCommand, readHeader}
+use Rattle.method_words.specs.Words.{callOf, headerWords}
+use Rattle.payload_words.specs.Words.{callWords, contentHeaderWords}
 use borrow.Author.Needs.{needs}
 use Rattle.frame_reader.proofs.words.read_payload.Statement.{statement}
 use Rattle.frame_reader.proofs.words.read_payload.Tie as tie
@@ -81,7 +86,7 @@ same-length c = search needs
 
 -- src/words.rt:95:1
 returns-2 : tie.Need-returns-2
-returns-2 c = let a = c .before .before .before .before .before .before .before .before .before .before .before .before .before .args in of-frame (c .frame-of .ensures _) (method-words errata (a .s .now) (frameOf (a .frame)) (a .next .at) (a .used) (a .tape .now) (a .payload .now) _ _ _ (ap typeOctet (c .before .before .before .before .before .before .before .enum-told .given .1)) (c .before .before .before .read-method .ensures))
+returns-2 c = let a = c .before .before .before .before .before .before .before .before .before .before .before .before .before .args in of-frame (c .frame-of .ensures _) (framed-words (λ x. callWords (callOf x)) (withCommand errata (a .s .now) (frameOf (a .frame)) (a .next .at) (a .used) (a .tape .now)) (a .frame .channel) (a .next .at) (a .payload .now) (readCommand errata (take (a .frame .payload .start + a .frame .payload .len) (a .s .now)) (a .frame .payload .start) (a .used) (a .tape .now)) (method-read errata (a .s .now) (frameOf (a .frame)) (a .next .at) (a .used) (a .tape .now) (ap typeOctet (c .before .before .before .before .before .before .before .enum-told .given .1))) (λ x. refl) (c .before .before .before .read-method .ensures))
 
 -- src/words.rt:95:1
 same-length-2 : tie.Need-same-length-2
@@ -89,7 +94,7 @@ same-length-2 c = search needs
 
 -- src/words.rt:95:1
 returns-3 : tie.Need-returns-3
-returns-3 c = let a = c .before .before .before .before .before .before .before .before .before .before .before .before .before .args in of-frame (c .frame-of2 .ensures _) (header-words errata (a .s .now) (frameOf (a .frame)) (a .next .at) (a .used) (a .tape .now) (a .payload .now) _ _ _ (ap typeOctet (c .before .before .before .before .before .before .before .enum-told2 .given .1)) (c .before .before .before .read-header .ensures))
+returns-3 c = let a = c .before .before .before .before .before .before .before .before .before .before .before .before .before .args in of-frame (c .frame-of2 .ensures _) (framed-words (λ x. contentHeaderWords (headerWords x)) (withHeader errata (a .s .now) (frameOf (a .frame)) (a .next .at) (a .used) (a .tape .now)) (a .frame .channel) (a .next .at) (a .payload .now) (readHeader errata (take (a .frame .payload .start + a .frame .payload .len) (a .s .now)) (a .frame .payload .start) (a .used) (a .tape .now)) (header-read errata (a .s .now) (frameOf (a .frame)) (a .next .at) (a .used) (a .tape .now) (ap typeOctet (c .before .before .before .before .before .before .before .enum-told2 .given .1))) (λ x. refl) (c .before .before .before .read-header .ensures))
 
 -- src/words.rt:95:1
 returns-4 : tie.Need-returns-4

@@ -1,5 +1,10 @@
 use Rattle.tables.specs.Letters.{errata}
-use Rattle.method_reader.proofs.KeptLaws.{call-refused, call-known, call-unknown}
+use Rattle.method_reader.proofs.KeptLaws.{call-known, call-unknown}
+use Rattle.method.specs.Reading.{readCommand}
+use Rattle.method.specs.Layout.{zeros}
+use Rattle.method_words.specs.Words.{callOf}
+use Rattle.method_words.proofs.InWordsLaws.{at-case, refused-too}
+use Rattle.method_reader.specs.AnswerOf.{answerOfCall}
 use borrow.Author.Needs.{needs}
 use Rattle.method_reader.proofs.commands.read_command.Statement.{statement}
 use Rattle.method_reader.proofs.commands.read_command.Tie as tie
@@ -38,7 +43,7 @@ same-length c = search needs
 
 -- src/commands.rt:97:1
 returns : tie.Need-returns
-returns c = let a = c .before .before .before .before .before .before .before .before .before .before .args in call-refused errata (a .s .now) (a .at .at) (a .used) (a .tape .now) (λ i. c .before .before .before .before .before .before .before .before .before .shared-slice-known .given i .fits) (c .before .before .before .before .before .read-call .result) _ _ _ (c .before .before .before .before .before .read-call .ensures) _ (c .before .e .given .1)
+returns c = let a = c .before .before .before .before .before .before .before .before .before .before .args in refused-too callOf (λ x. x .words) (zeros 8) (readCommand errata (a .s .now) (a .at .at) (a .used) (a .tape .now)) _ _ _ (at-case answerOfCall (c .before .before .before .before .before .read-call .ensures) (c .before .e .given .1))
 
 -- src/commands.rt:97:1
 same-length-2 : tie.Need-same-length-2

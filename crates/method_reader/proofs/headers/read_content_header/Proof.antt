@@ -1,5 +1,10 @@
 use Rattle.tables.specs.Letters.{errata}
-use Rattle.method_reader.proofs.KeptLaws.{header-refused, header-made}
+use Rattle.method_reader.proofs.KeptLaws.{header-made}
+use Rattle.method.specs.Reading.{readHeader}
+use Rattle.method.specs.Layout.{zeros}
+use Rattle.method_words.specs.Words.{headerWords}
+use Rattle.method_words.proofs.InWordsLaws.{at-case, refused-too}
+use Rattle.method_reader.specs.AnswerOf.{answerOfHeaderWords}
 use borrow.Author.Needs.{needs}
 use Rattle.method_reader.proofs.headers.read_content_header.Statement.{statement}
 use Rattle.method_reader.proofs.headers.read_content_header.Tie as tie
@@ -30,7 +35,7 @@ same-length c = search needs
 
 -- src/headers.rt:93:1
 returns : tie.Need-returns
-returns c = let a = c .before .before .before .before .before .before .before .before .before .before .args in header-refused errata (a .s .now) (a .at .at) (a .used) (a .tape .now) (λ i. c .before .before .before .before .before .before .before .before .before .shared-slice-known .given i .fits) (c .before .before .before .before .before .read-header-words .result) _ _ _ (c .before .before .before .before .before .read-header-words .ensures) _ (c .before .e .given .1)
+returns c = let a = c .before .before .before .before .before .before .before .before .before .before .args in refused-too headerWords (λ x. x .words) (zeros 22) (readHeader errata (a .s .now) (a .at .at) (a .used) (a .tape .now)) _ _ _ (at-case answerOfHeaderWords (c .before .before .before .before .before .read-header-words .ensures) (c .before .e .given .1))
 
 -- src/headers.rt:93:1
 same-length-2 : tie.Need-same-length-2
