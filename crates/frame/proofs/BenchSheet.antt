@@ -6,7 +6,7 @@ use Rattle.utf8.specs.Utf8.{character, faultFrom, fault, utf8}
 use Rattle.types.specs.Octets.{numberAt, uintAt}
 use Rattle.types.specs.Strings.{spanAt, longStrAt, shortStrAt}
 use Rattle.types.specs.Memory.{splice}
-use Rattle.writers.specs.Writers.{writeAt}
+use Rattle.writers.specs.Writers.{writeAt, writeShortStr}
 use Rattle.types.specs.Records.{firstRecords}
 use Rattle.tables.specs.Letters.{errata, kindOf}
 use Rattle.tables.specs.Forest.{size, meaningOf}
@@ -15,11 +15,11 @@ use Rattle.tables.specs.Tape.{flatten, unflatten}
 use Rattle.tables.specs.Writing.{body, judgeRecord, judgeWithFuel, judgeRecords, judgeLoneValue, tapeMeaning, writeLoneValue}
 use Rattle.method.specs.Commands.{commands, fieldsOf}
 use Rattle.method.specs.Properties.{properties, select}
-use Rattle.method.specs.Writing.{placed, sentArgsMeaning, sentCommandMeaning, fieldOctets, commandOctets, headerOctets, judgeArgs, judgeLengths, headerRefusal, writeHeader}
+use Rattle.method.specs.Writing.{placed, sentArgsMeaning, sentCommandMeaning, fieldOctets, commandOctets, headerOctets, judgeLengths}
 use Rattle.frame.specs.Frame.{frameAt, decodeAt, frameOctets}
 use Rattle.frame.specs.Step as step
 use Rattle.frame.specs.Step.{frameWithPayloadAt, stepAt}
-use Rattle.method.specs.Pooled.{sentArgs}
+use Rattle.method.specs.Pooled.{sentArgs, judgePooled, writeHeaderPooled}
 use Rattle.frame.specs.Writing.{framePayloadOctets}
 use Rattle.frame.specs.Bench.{ack, persistent, loginOf, BenchSheet}
 
@@ -36,7 +36,7 @@ unfolding sentArgsMeaning fieldOctets commandOctets commands fieldsOf loginOf oc
 second-15 = refl
 
 pub bench-sheet : BenchSheet
-unfolding sentArgs character faultFrom fault utf8 numberAt uintAt spanAt longStrAt shortStrAt splice writeAt firstRecords kindOf size meaningOf leafAt nameAt entriesWithFuel entriesAt containerAt payloadAt valueWith valueAt tableAt loneValueAt flatten unflatten body judgeRecord judgeWithFuel judgeRecords judgeLoneValue tapeMeaning writeLoneValue commands fieldsOf properties select placed sentArgsMeaning fieldOctets commandOctets headerOctets judgeArgs judgeLengths headerRefusal writeHeader frameAt decodeAt frameOctets step.payloadAt frameWithPayloadAt stepAt framePayloadOctets ack persistent loginOf
+unfolding sentArgs character faultFrom fault utf8 numberAt uintAt spanAt longStrAt shortStrAt splice writeAt firstRecords kindOf size meaningOf leafAt nameAt entriesWithFuel entriesAt containerAt payloadAt valueWith valueAt tableAt loneValueAt flatten unflatten body judgeRecord judgeWithFuel judgeRecords judgeLoneValue tapeMeaning writeLoneValue commands fieldsOf properties select placed sentArgsMeaning fieldOctets commandOctets headerOctets judgePooled judgeLengths writeHeaderPooled writeShortStr frameAt decodeAt frameOctets step.payloadAt frameWithPayloadAt stepAt framePayloadOctets ack persistent loginOf
 bench-sheet =
     record {
       line-1 = refl;

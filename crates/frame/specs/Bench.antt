@@ -6,18 +6,19 @@ use mathlib.Core.List.{List, [], _∷_, _++_}
 use Prim.Native.Nat.{ℕ, zero, suc}
 use lib.ListN.{length, replicate}
 use Rattle.types.specs.Answer.{Answer, given, refused, truncated, shortStrTooLong, unsupportedFieldType, tooDeep}
-use Rattle.types.specs.Strings.{shortStr, longStr, judgeShortStr}
+use Rattle.types.specs.Strings.{longStr}
 use Rattle.types.specs.Memory.{outcome}
-use Rattle.writers.specs.Writers.{writeAt}
+use Rattle.writers.specs.Writers.{writeShortStr}
 use Rattle.tables.specs.Letters.{errata}
 use Rattle.tables.specs.Forest as forest
 use Rattle.tables.specs.Forest.{item, words, LocatedTable}
 use Rattle.tables.specs.Reading.{noName, tableAt, loneValueAt}
 use Rattle.tables.specs.Writing.{writeLoneValue}
-use Rattle.method.specs.Fields.{Sent}
+use Rattle.method.specs.Fields.{Sent, Returned}
 use Rattle.method.specs.Commands.{commands, fieldsOf, Command, call}
 use Rattle.method.specs.Properties.{properties, select, Header, header}
-use Rattle.method.specs.Writing.{sentCommandMeaning, commandOctets, writeHeader}
+use Rattle.method.specs.Writing.{sentCommandMeaning, commandOctets}
+use Rattle.method.specs.Pooled.{writeHeaderPooled}
 use Rattle.frame.specs.Frame.{decodeAt}
 use Rattle.frame.specs.Step.{command, heartbeat, stepAt}
 use Rattle.frame.specs.Writing.{SentFrame, octetsOfFrame}
@@ -39,7 +40,7 @@ unfolding commands fieldsOf
 ack = record { channel = 1; payload = command (call 60 80 (5, ((true ∷ []), tt))); pool = []; tape = [] }
 
 -- delivery-mode 2 alone
-unfoldable pub persistent : Header Sent
+unfoldable pub persistent : Header Returned
 unfolding select properties
 persistent =
     header 60 0 (false ∷ false ∷ false ∷ true ∷ false ∷ false ∷ false ∷ false ∷ false ∷ false ∷ false ∷ false ∷ false ∷ []) (2, tt)
@@ -64,8 +65,8 @@ zeros n = replicate n 0
 pub record BenchSheet : Type 0 where
   pub line-1 : tableAt errata (0 ∷ 0 ∷ 0 ∷ 0 ∷ []) 0 0 ≡ given forest.none 4
   pub line-2 : tableAt errata (0 ∷ 0 ∷ 0 ∷ 3 ∷ 1 ∷ 97 ∷ 86 ∷ []) 0 1 ≡ given (one 86 0) 7
-  pub line-3 : writeAt (judgeShortStr (replicate 255 97)) (shortStr (replicate 255 97)) 0 (zeros 256) ≡ outcome (given tt 256) (255 ∷ replicate 255 97)
-  pub line-4 : writeAt (judgeShortStr (replicate 256 97)) (shortStr (replicate 256 97)) 0 (zeros 300) ≡ outcome (refused shortStrTooLong) (zeros 300)
+  pub line-3 : writeShortStr (replicate 255 97) 0 (zeros 256) ≡ outcome (given tt 256) (255 ∷ replicate 255 97)
+  pub line-4 : writeShortStr (replicate 256 97) 0 (zeros 300) ≡ outcome (refused shortStrTooLong) (zeros 300)
   pub line-5 : decodeAt (replicate 6 9) 0 ≡ refused truncated
   pub line-6 : decodeAt (9 ∷ zeros 6) 0 ≡ refused (unsupportedFieldType 9)
   pub line-7 : stepAt errata (8 ∷ zeros 6 ++ (206 ∷ [])) 0 0 ≡ given (record { value = record { channel = 0; payload = heartbeat }; tape = [] }) 8
@@ -75,7 +76,7 @@ pub record BenchSheet : Type 0 where
   pub line-11 : (loneValueAt errata (116 ∷ 2 ∷ []) 0 1 ≡ given (alone 116 1) 2) × (writeLoneValue errata [] (tapeOf 116 1) 0 (zeros 2) ≡ outcome (given tt 2) (116 ∷ 1 ∷ []))
   pub line-12 : (loneValueAt errata (102 ∷ 127 ∷ 192 ∷ 0 ∷ 1 ∷ []) 0 1 ≡ given (alone 102 2143289345) 5)
       × (writeLoneValue errata [] (tapeOf 102 2143289345) 0 (zeros 5) ≡ outcome (given tt 5) (102 ∷ 127 ∷ 192 ∷ 0 ∷ 1 ∷ []))
-  pub line-13 : writeHeader errata persistent 0 (zeros 15) ≡ outcome (given tt 15) (0 ∷ 60 ∷ 0 ∷ 0 ∷ 0 ∷ 0 ∷ 0 ∷ 0 ∷ 0 ∷ 0 ∷ 0 ∷ 0 ∷ 16 ∷ 0 ∷ 2 ∷ [])
+  pub line-13 : writeHeaderPooled errata [] [] persistent 0 (zeros 15) ≡ outcome (given tt 15) (0 ∷ 60 ∷ 0 ∷ 0 ∷ 0 ∷ 0 ∷ 0 ∷ 0 ∷ 0 ∷ 0 ∷ 0 ∷ 0 ∷ 16 ∷ 0 ∷ 2 ∷ [])
   pub line-14 : writeLoneValue errata [] (tapeOf 84 1700000001) 0 (zeros 9) ≡ outcome (given tt 9) (84 ∷ 0 ∷ 0 ∷ 0 ∷ 0 ∷ 101 ∷ 83 ∷ 241 ∷ 1 ∷ [])
   pub line-15 : commandOctets errata (sentCommandMeaning errata (loginOf (97 ∷ []) (98 ∷ 0 ∷ 99 ∷ []))) ≡ commandOctets errata (sentCommandMeaning errata (loginOf (97 ∷ 0 ∷ 98 ∷ []) (99 ∷ [])))
   pub line-16 : (consumed (tableAt errata (longStr (nested 15)) 0 15) ≡ length (longStr (nested 15))) × (tableAt errata (longStr (nested 16)) 0 16 ≡ refused tooDeep)

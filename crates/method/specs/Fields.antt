@@ -72,3 +72,21 @@ abbrev pub Args : (Kind → Type 0) → List Field → Type 0
 Args X [] = Unit {0}
 Args X (fixed octets ∷ fs) = Args X fs
 Args X (arg k ∷ fs) = X k × Args X fs
+
+-- each argument in another form
+abbrev pub mapArgs : {X Y : Kind → Type 0} → ((k : Kind) → X k → Y k) → (fs : List Field) → Args X fs → Args Y fs
+mapArgs f [] vs = tt
+mapArgs f (fixed octets ∷ fs) vs = mapArgs f fs vs
+mapArgs f (arg k ∷ fs) vs = (f k (vs .0), mapArgs f fs (vs .1))
+
+-- what all arguments come to, in order
+abbrev pub foldArgs : {X : Kind → Type 0} {M : Type 0} → (M → M → M) → M → ((k : Kind) → X k → M) → (fs : List Field) → Args X fs → M
+foldArgs join nil f [] vs = nil
+foldArgs join nil f (fixed octets ∷ fs) vs = foldArgs join nil f fs vs
+foldArgs join nil f (arg k ∷ fs) vs = join (f k (vs .0)) (foldArgs join nil f fs (vs .1))
+
+-- what holds of each
+abbrev pub AllArgs : {X : Kind → Type 0} → ((k : Kind) → X k → Type 0) → (fs : List Field) → Args X fs → Type 0
+AllArgs P [] vs = Unit {0}
+AllArgs P (fixed octets ∷ fs) vs = AllArgs P fs vs
+AllArgs P (arg k ∷ fs) vs = P k (vs .0) × AllArgs P fs (vs .1)

@@ -12,7 +12,7 @@ use Rattle.writers.specs.Writers.{writeAt}
 use Rattle.types.specs.declared.Span.{Span}
 use Rattle.tables.specs.Letters.{Letters}
 use Rattle.tables.specs.Writing.{inPool, judgeTable}
-use Rattle.method.specs.Fields.{Kind, number, shortStr, bits, login, table, Field, fixed, arg, Meaning, Sent, Returned, Args}
+use Rattle.method.specs.Fields.{Kind, number, shortStr, bits, login, table, Field, fixed, arg, Meaning, Sent, Returned, Args, mapArgs, foldArgs}
 use Rattle.method.specs.Commands.{fieldsOf, Command, call}
 use Rattle.method.specs.Properties.{properties, select, Header, header}
 use Rattle.method.specs.Writing.{sentArgsMeaning, sentCommandMeaning, sentHeaderMeaning, commandOctets, headerOctets, judgeLengths}
@@ -27,9 +27,7 @@ module _ (letters : Letters) (pool tape : List ℕ) where
   sentArg table n = record { tape = tape; pool = pool }
 
   unfoldable pub sentArgs : (fs : List Field) → Args Returned fs → Args Sent fs
-  sentArgs [] vs = tt
-  sentArgs (fixed xs ∷ fs) vs = sentArgs fs vs
-  sentArgs (arg k ∷ fs) vs = (sentArg k (vs .0), sentArgs fs (vs .1))
+  sentArgs fs vs = mapArgs sentArg fs vs
 
   abbrev pub sentCommand : Command Returned → Command Sent
   sentCommand (call c m vs) = call c m (sentArgs (fieldsOf c m) vs)
@@ -53,9 +51,7 @@ module _ (letters : Letters) (pool tape : List ℕ) where
 
   -- in wire order
   unfoldable pub judgePooled : (fs : List Field) → Args Returned fs → Option Refusal
-  judgePooled [] vs = none
-  judgePooled (fixed xs ∷ fs) vs = judgePooled fs vs
-  judgePooled (arg k ∷ fs) vs = orElse (judgeReturned k (vs .0)) (judgePooled fs (vs .1))
+  judgePooled fs vs = foldArgs orElse none judgeReturned fs vs
 
   abbrev pub refusalPooled : (fs : List Field) → Args Returned fs → Option Refusal
   refusalPooled fs vs = orElse (judgePooled fs vs) (judgeLengths letters fs (sentArgsMeaning letters fs (sentArgs fs vs)))

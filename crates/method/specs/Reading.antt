@@ -15,7 +15,7 @@ use Rattle.tables.specs.Forest.{size, meaningOf}
 use Rattle.tables.specs.Reading.{tableAt}
 use Rattle.types.specs.Memory.{Outcome}
 use Rattle.tables.specs.Tape.{Record, flatten, forestOf, WithTape, WithCount, roomOf, fillTape}
-use Rattle.method.specs.Fields.{Kind, number, shortStr, bits, login, table, Field, fixed, arg, Login, Meaning, Located, Returned, Args}
+use Rattle.method.specs.Fields.{Kind, number, shortStr, bits, login, table, Field, fixed, arg, Login, Meaning, Located, Returned, Args, mapArgs, foldArgs}
 use Rattle.method.specs.Commands.{known, fieldsOf, Command, call}
 use Rattle.method.specs.Properties.{properties, select, flagsOf, Header, header}
 
@@ -86,9 +86,7 @@ argTape login x = []
 argTape table t = flatten (t .entries)
 
 unfoldable pub tapeOf : (fs : List Field) → Args Located fs → List Record
-tapeOf [] vs = []
-tapeOf (fixed xs ∷ fs) vs = tapeOf fs vs
-tapeOf (arg k ∷ fs) vs = argTape k (vs .0) ++ tapeOf fs (vs .1)
+tapeOf fs vs = foldArgs _++_ [] argTape fs vs
 
 -- a fixed field is taken whole, and is NotWritten at its first octet if it differs
 unfoldable pub fixedAt : List ℕ → List ℕ → ℕ → Answer Unit
@@ -136,9 +134,7 @@ returnedArg login x = x
 returnedArg table t = size (t .entries)
 
 unfoldable pub returnedArgs : (fs : List Field) → Args Located fs → Args Returned fs
-returnedArgs [] vs = tt
-returnedArgs (fixed xs ∷ fs) vs = returnedArgs fs vs
-returnedArgs (arg k ∷ fs) vs = (returnedArg k (vs .0), returnedArgs fs (vs .1))
+returnedArgs fs vs = mapArgs returnedArg fs vs
 
 abbrev pub commandWithTape : Command Located → WithTape (Command Returned)
 commandWithTape (call c m vs) = record { value = call c m (returnedArgs (fieldsOf c m) vs); tape = tapeOf (fieldsOf c m) vs }

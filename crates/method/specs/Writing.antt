@@ -19,7 +19,7 @@ use Rattle.writers.specs.Writers.{writeAt}
 use Rattle.tables.specs.Letters.{Letters}
 use Rattle.tables.specs.Forest.{size}
 use Rattle.tables.specs.Writing.{body, tableOctets, judgeTable, tapeMeaning}
-use Rattle.method.specs.Fields.{Kind, number, shortStr, bits, login, table, Field, fixed, arg, Login, Meaning, Sent, Args}
+use Rattle.method.specs.Fields.{Kind, number, shortStr, bits, login, table, Field, fixed, arg, Login, Meaning, Sent, Args, mapArgs, foldArgs, AllArgs}
 use Rattle.method.specs.Commands.{known, fieldsOf, Command, call}
 use Rattle.method.specs.Properties.{properties, select, flagsNumber, Header, header}
 
@@ -48,9 +48,7 @@ sentArgMeaning letters login x = x
 sentArgMeaning letters table t = tapeMeaning letters (t .pool) (t .tape)
 
 unfoldable pub sentArgsMeaning : Letters → (fs : List Field) → Args Sent fs → Args Meaning fs
-sentArgsMeaning letters [] vs = tt
-sentArgsMeaning letters (fixed xs ∷ fs) vs = sentArgsMeaning letters fs vs
-sentArgsMeaning letters (arg k ∷ fs) vs = (sentArgMeaning letters k (vs .0), sentArgsMeaning letters fs (vs .1))
+sentArgsMeaning letters fs vs = mapArgs (sentArgMeaning letters) fs vs
 
 abbrev pub sentCommandMeaning : Letters → Command Sent → Command Meaning
 sentCommandMeaning letters (call c m vs) = call c m (sentArgsMeaning letters (fieldsOf c m) vs)
@@ -68,9 +66,7 @@ values login x = 0
 values table t = size t
 
 abbrev pub valuesIn : (fs : List Field) → Args Meaning fs → ℕ
-valuesIn [] vs = 0
-valuesIn (fixed xs ∷ fs) vs = valuesIn fs vs
-valuesIn (arg k ∷ fs) vs = values k (vs .0) + valuesIn fs (vs .1)
+valuesIn fs vs = foldArgs _+_ 0 values fs vs
 
 abbrev pub commandValues : Command Meaning → ℕ
 commandValues (call c m vs) = valuesIn (fieldsOf c m) vs
@@ -110,9 +106,7 @@ judgeArg letters login x = test (utf8 (x .user)) notUtf8 (test (utf8 (x .passwor
 judgeArg letters table t = judgeTable letters (t .pool) (t .tape)
 
 unfoldable pub judgeArgs : Letters → (fs : List Field) → Args Sent fs → Option Refusal
-judgeArgs letters [] vs = none
-judgeArgs letters (fixed xs ∷ fs) vs = judgeArgs letters fs vs
-judgeArgs letters (arg k ∷ fs) vs = orElse (judgeArg letters k (vs .0)) (judgeArgs letters fs (vs .1))
+judgeArgs letters fs vs = foldArgs orElse none (judgeArg letters) fs vs
 
 -- the length fields of four octets
 abbrev pub judgeArgLength : Letters → (k : Kind) → Meaning k → Option Refusal
@@ -123,9 +117,7 @@ judgeArgLength letters login x = judgeLength (length (loginText x))
 judgeArgLength letters table t = judgeLength (length (body letters true t))
 
 unfoldable pub judgeLengths : Letters → (fs : List Field) → Args Meaning fs → Option Refusal
-judgeLengths letters [] vs = none
-judgeLengths letters (fixed xs ∷ fs) vs = judgeLengths letters fs vs
-judgeLengths letters (arg k ∷ fs) vs = orElse (judgeArgLength letters k (vs .0)) (judgeLengths letters fs (vs .1))
+judgeLengths letters fs vs = foldArgs orElse none (judgeArgLength letters) fs vs
 
 abbrev pub refusalOf : Letters → (fs : List Field) → Args Sent fs → Option Refusal
 refusalOf letters fs vs = orElse (judgeArgs letters fs vs) (judgeLengths letters fs (sentArgsMeaning letters fs vs))
@@ -151,9 +143,7 @@ Typed login x = Unit {0}
 Typed table t = Unit {0}
 
 abbrev pub TypedAll : (fs : List Field) → Args Sent fs → Type 0
-TypedAll [] vs = Unit {0}
-TypedAll (fixed xs ∷ fs) vs = TypedAll fs vs
-TypedAll (arg k ∷ fs) vs = Typed k (vs .0) × TypedAll fs (vs .1)
+TypedAll fs vs = AllArgs Typed fs vs
 
 unfoldable pub TypedCommand : Command Sent → Type 0
 TypedCommand (call c m vs) = (c < 256 ^ 2) × (m < 256 ^ 2) × (known c m ≡ true) × TypedAll (fieldsOf c m) vs
@@ -175,9 +165,7 @@ NoNulArg login x = NoNul (x .user)
 NoNulArg table t = Unit {0}
 
 abbrev pub NoNulArgs : (fs : List Field) → Args Sent fs → Type 0
-NoNulArgs [] vs = Unit {0}
-NoNulArgs (fixed xs ∷ fs) vs = NoNulArgs fs vs
-NoNulArgs (arg k ∷ fs) vs = NoNulArg k (vs .0) × NoNulArgs fs (vs .1)
+NoNulArgs fs vs = AllArgs NoNulArg fs vs
 
 unfoldable pub NoNulCommand : Command Sent → Type 0
 NoNulCommand (call c m vs) = NoNulArgs (fieldsOf c m) vs
