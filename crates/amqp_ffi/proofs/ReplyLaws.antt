@@ -14,7 +14,7 @@ use Rattle.types.specs.declared.WireError.{WireError}
 use Rattle.types.specs.declared.WireError.the-variants.{Truncated, ShortStrTooLong, UnsupportedFieldType, NotUtf8, BadTape, UnknownMethod, NotWritten, TooDeep, TooLong, TapeFull, NoSpace}
 use Rattle.types.specs.declared.Span.{Span}
 use Rattle.tables.specs.Tape.{WithCount}
-use Rattle.method.specs.Fields.{Returned}
+use Rattle.method.specs.Fields.{Pooled}
 use Rattle.method.specs.Properties.{Header, header, class, bodySize}
 use Rattle.method_words.specs.Words.{headerWords}
 use Rattle.method_words.specs.InWords.{WordsOutcome, wordsOutcome, inWords}
@@ -92,11 +92,11 @@ start w = w .value .class ∷ w .value .«body_size» ∷ w .count ∷ []
 abbrev startReply : WordsOutcome HeaderWords → ReplyWith
 startReply (wordsOutcome a w t) = record { answer = replyOf start a; memory = t }
 
-same-start : (h : Header Returned) (k next : ℕ)
+same-start : (h : Header Pooled) (k next : ℕ)
     → reply 0 (next ∷ headerWords h .class ∷ headerWords h .«body_size» ∷ k ∷ []) ≡ reply 0 (next ∷ class h ∷ bodySize h ∷ k ∷ [])
 same-start (header c n present vs) k next = refl
 
-pub header-in-words : {r : ReadHeaderWords} (k : ReadHeaderWords) (lent : List ℕ) (o : Outcome (WithCount (Header Returned))) {w t : List ℕ} {p : Reply}
+pub header-in-words : {r : ReadHeaderWords} (k : ReadHeaderWords) (lent : List ℕ) (o : Outcome (WithCount (Header Pooled))) {w t : List ℕ} {p : Reply}
     → p ≡ replyOf start (answerOfHeaderWords k w) → r ≡ k → wordsOutcome (answerOfHeaderWords r w) w t ≡ inWords headerWords (λ x. x .words) lent o
     → record { answer = p; memory = t } ≡ replyWithOf headerReply o
 header-in-words k lent o {w = w} {t = t} e q h =
@@ -105,7 +105,7 @@ header-in-words k lent o {w = w} {t = t} e q h =
     ∙ ap startReply h
     ∙ go o
   where
-    go : (o : Outcome (WithCount (Header Returned))) → startReply (inWords headerWords (λ x. x .words) lent o) ≡ replyWithOf headerReply o
+    go : (o : Outcome (WithCount (Header Pooled))) → startReply (inWords headerWords (λ x. x .words) lent o) ≡ replyWithOf headerReply o
     go (outcome (given x n) m) = ap (λ (r : Reply). record { answer = r; memory = m }) (same-start (x .value) (x .count) n)
     go (outcome (refused e) m) = refl
 
@@ -116,13 +116,13 @@ inFrame w = getD (w .value .payload) 0 0 ∷ w .value .channel ∷ w .count ∷ 
 abbrev wordsReply : WordsOutcome FrameWords → FrameReply
 wordsReply (wordsOutcome a w t) = record { answer = replyOf inFrame a; tape = t; payload = w }
 
-first-word : (x : Payload Returned Span) → getD (payloadWords x) 0 0 ≡ typeOf x
+first-word : (x : Payload Pooled Span) → getD (payloadWords x) 0 0 ≡ typeOf x
 first-word (command x) = refl
 first-word (payload.header x) = refl
 first-word (body v) = refl
 first-word heartbeat = refl
 
-pub frame-in-words : {r : ReadFrameWords} (k : ReadFrameWords) (before : List ℕ) (o : Outcome (WithCount (FrameOf Returned Span))) {w t : List ℕ} {p : Reply}
+pub frame-in-words : {r : ReadFrameWords} (k : ReadFrameWords) (before : List ℕ) (o : Outcome (WithCount (FrameOf Pooled Span))) {w t : List ℕ} {p : Reply}
     → p ≡ replyOf inFrame (answerOfFrameWords k w) → r ≡ k → wordsOutcome (answerOfFrameWords r w) w t ≡ inWords frameWords (λ x. x .payload) before o
     → record { answer = p; tape = t; payload = w } ≡ frameReplyOf o before
 frame-in-words k before o {w = w} {t = t} e q h =
@@ -131,7 +131,7 @@ frame-in-words k before o {w = w} {t = t} e q h =
     ∙ ap wordsReply h
     ∙ go o
   where
-    go : (o : Outcome (WithCount (FrameOf Returned Span))) → wordsReply (inWords frameWords (λ x. x .payload) before o) ≡ frameReplyOf o before
+    go : (o : Outcome (WithCount (FrameOf Pooled Span))) → wordsReply (inWords frameWords (λ x. x .payload) before o) ≡ frameReplyOf o before
     go (outcome (given x n) m) =
         ap (λ (f : ℕ). record { answer = reply 0 (n ∷ f ∷ x .value .channel ∷ x .count ∷ []); tape = m; payload = payloadWords (x .value .payload) }) (first-word (x .value .payload))
     go (outcome (refused e) m) = refl

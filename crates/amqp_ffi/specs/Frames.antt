@@ -6,10 +6,10 @@ use Rattle.types.specs.Answer.{Refusal, refused}
 use Rattle.types.specs.Memory.{Outcome, outcome}
 use Rattle.types.specs.declared.Span.{Span}
 use Rattle.tables.specs.Letters.{Letters}
-use Rattle.method.specs.Fields.{Returned}
+use Rattle.method.specs.Fields.{Pooled}
 use Rattle.frame.specs.Step.{Payload}
 use Rattle.frame.specs.Writing.{writeFrame}
 
-abbrev pub writeFrom : Letters → ℕ → List ℕ → List ℕ → Payload Returned Span ⊎ Refusal → ℕ → List ℕ → Outcome Unit
+abbrev pub writeFrom : Letters → ℕ → List ℕ → List ℕ → Payload Pooled Span ⊎ Refusal → ℕ → List ℕ → Outcome Unit
 writeFrom letters channel pool tape (inl x) at out = writeFrame letters (record { channel = channel; payload = x; pool = pool; tape = tape }) at out
 writeFrom letters channel pool tape (inr r) at out = outcome (refused r) out

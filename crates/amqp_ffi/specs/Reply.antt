@@ -8,7 +8,7 @@ use Rattle.types.specs.Answer.{Refusal, Answer, given, refused}
 use Rattle.types.specs.Memory.{Outcome, outcome}
 use Rattle.types.specs.declared.Span.{Span}
 use Rattle.tables.specs.Tape.{WithCount}
-use Rattle.method.specs.Fields.{Returned}
+use Rattle.method.specs.Fields.{Pooled}
 use Rattle.method.specs.Properties.{Header, class, bodySize}
 use Rattle.frame.specs.Frame.{Frame}
 use Rattle.frame.specs.Step.{FrameOf}
@@ -51,7 +51,7 @@ abbrev pub records : WithCount Unit → List ℕ
 records w = w .count ∷ []
 
 -- those of a content header: class, body size, and how many records its headers have
-abbrev pub header : WithCount (Header Returned) → List ℕ
+abbrev pub header : WithCount (Header Pooled) → List ℕ
 header w = class (w .value) ∷ bodySize (w .value) ∷ w .count ∷ []
 
 -- those of a frame that is decoded: type, channel, and the length of its payload, which begins behind the first seven octets
@@ -59,7 +59,7 @@ abbrev pub decoded : Frame → List ℕ
 decoded f = f .type ∷ f .channel ∷ f .payload .len ∷ []
 
 -- and of one that is read: type, channel, and how many tape records it has
-abbrev pub frame : WithCount (FrameOf Returned Span) → List ℕ
+abbrev pub frame : WithCount (FrameOf Pooled Span) → List ℕ
 frame w = typeOf (w .value .payload) ∷ w .value .channel ∷ w .count ∷ []
 
 -- a writer leaves its output too, and a reader of tables its tape
@@ -99,9 +99,9 @@ pub record FrameReply : Type 0 where
 abbrev pub frameReply : ℕ → List ℕ → List ℕ → List ℕ → FrameReply
 frameReply code words tape payload = record { answer = reply code words; tape = tape; payload = payload }
 
-abbrev pub payloadAfter : Answer (WithCount (FrameOf Returned Span)) → List ℕ → List ℕ
+abbrev pub payloadAfter : Answer (WithCount (FrameOf Pooled Span)) → List ℕ → List ℕ
 payloadAfter (given w next) before = payloadWords (w .value .payload)
 payloadAfter (refused r) before = before
 
-abbrev pub frameReplyOf : Outcome (WithCount (FrameOf Returned Span)) → List ℕ → FrameReply
+abbrev pub frameReplyOf : Outcome (WithCount (FrameOf Pooled Span)) → List ℕ → FrameReply
 frameReplyOf (outcome a tape) before = record { answer = replyOf frame a; tape = tape; payload = payloadAfter a before }

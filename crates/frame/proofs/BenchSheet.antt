@@ -15,11 +15,11 @@ use Rattle.tables.specs.Tape.{flatten, unflatten}
 use Rattle.tables.specs.Writing.{body, judgeRecord, judgeWithFuel, judgeRecords, judgeLoneValue, tapeMeaning, writeLoneValue}
 use Rattle.method.specs.Commands.{commands, fieldsOf}
 use Rattle.method.specs.Properties.{properties, select}
-use Rattle.method.specs.Writing.{placed, sentArgsMeaning, sentCommandMeaning, fieldOctets, commandOctets, headerOctets, judgeLengths}
+use Rattle.method.specs.Writing.{placed, fieldOctets, commandOctets, headerOctets, judgeLengths}
 use Rattle.frame.specs.Frame.{frameAt, decodeAt, frameOctets}
 use Rattle.frame.specs.Step as step
 use Rattle.frame.specs.Step.{frameWithPayloadAt, stepAt}
-use Rattle.method.specs.Pooled.{sentArgs, judgePooled, writeHeaderPooled}
+use Rattle.method.specs.Pooled.{pooledMeanings, judgeArgs, writeHeader}
 use Rattle.frame.specs.Writing.{framePayloadOctets}
 use Rattle.frame.specs.Bench.{ack, persistent, loginOf, BenchSheet}
 
@@ -27,16 +27,16 @@ use Rattle.frame.specs.Bench.{ack, persistent, loginOf, BenchSheet}
 octets-15 : List ℕ
 octets-15 = 0 ∷ 10 ∷ 0 ∷ 11 ∷ 0 ∷ 0 ∷ 0 ∷ 36 ∷ 7 ∷ 112 ∷ 114 ∷ 111 ∷ 100 ∷ 117 ∷ 99 ∷ 116 ∷ 83 ∷ 0 ∷ 0 ∷ 0 ∷ 7 ∷ 90 ∷ 101 ∷ 114 ∷ 111 ∷ 68 ∷ 68 ∷ 83 ∷ 7 ∷ 118 ∷ 101 ∷ 114 ∷ 115 ∷ 105 ∷ 111 ∷ 110 ∷ 83 ∷ 0 ∷ 0 ∷ 0 ∷ 3 ∷ 49 ∷ 46 ∷ 48 ∷ 5 ∷ 80 ∷ 76 ∷ 65 ∷ 73 ∷ 78 ∷ 0 ∷ 0 ∷ 0 ∷ 6 ∷ 0 ∷ 97 ∷ 0 ∷ 98 ∷ 0 ∷ 99 ∷ 5 ∷ 101 ∷ 110 ∷ 95 ∷ 85 ∷ 83 ∷ []
 
-first-15 : commandOctets errata (sentCommandMeaning errata (loginOf (97 ∷ []) (98 ∷ 0 ∷ 99 ∷ []))) ≡ octets-15
-unfolding sentArgsMeaning fieldOctets commandOctets commands fieldsOf loginOf octets-15
+first-15 : commandOctets errata (loginOf (97 ∷ []) (98 ∷ 0 ∷ 99 ∷ [])) ≡ octets-15
+unfolding fieldOctets commandOctets commands fieldsOf loginOf octets-15
 first-15 = refl
 
-second-15 : commandOctets errata (sentCommandMeaning errata (loginOf (97 ∷ 0 ∷ 98 ∷ []) (99 ∷ []))) ≡ octets-15
-unfolding sentArgsMeaning fieldOctets commandOctets commands fieldsOf loginOf octets-15
+second-15 : commandOctets errata (loginOf (97 ∷ 0 ∷ 98 ∷ []) (99 ∷ [])) ≡ octets-15
+unfolding fieldOctets commandOctets commands fieldsOf loginOf octets-15
 second-15 = refl
 
 pub bench-sheet : BenchSheet
-unfolding sentArgs character faultFrom fault utf8 numberAt uintAt spanAt longStrAt shortStrAt splice writeAt firstRecords kindOf size meaningOf leafAt nameAt entriesWithFuel entriesAt containerAt payloadAt valueWith valueAt tableAt loneValueAt flatten unflatten body judgeRecord judgeWithFuel judgeRecords judgeLoneValue tapeMeaning writeLoneValue commands fieldsOf properties select placed sentArgsMeaning fieldOctets commandOctets headerOctets judgePooled judgeLengths writeHeaderPooled writeShortStr frameAt decodeAt frameOctets step.payloadAt frameWithPayloadAt stepAt framePayloadOctets ack persistent loginOf
+unfolding pooledMeanings character faultFrom fault utf8 numberAt uintAt spanAt longStrAt shortStrAt splice writeAt firstRecords kindOf size meaningOf leafAt nameAt entriesWithFuel entriesAt containerAt payloadAt valueWith valueAt tableAt loneValueAt flatten unflatten body judgeRecord judgeWithFuel judgeRecords judgeLoneValue tapeMeaning writeLoneValue commands fieldsOf properties select placed fieldOctets commandOctets headerOctets judgeArgs judgeLengths writeHeader writeShortStr frameAt decodeAt frameOctets step.payloadAt frameWithPayloadAt stepAt framePayloadOctets ack persistent loginOf
 bench-sheet =
     record {
       line-1 = refl;

@@ -17,7 +17,7 @@ use Rattle.types.proofs.Chain.{then-go, need-given, given-next, given-value}
 use Rattle.types.proofs.RoundTrip.{stands-octet, number-value}
 use Rattle.tables.specs.Letters.{Letters}
 use Rattle.tables.specs.Tape.{WithTape}
-use Rattle.method.specs.Fields.{Meaning, Located, Returned}
+use Rattle.method.specs.Fields.{Meaning, Located, Pooled}
 use Rattle.method.specs.Reading.{commandAt, headerAt}
 use Rattle.method.proofs.Bounds.{command-within, header-within}
 use Rattle.method.proofs.MethodLaws.{FitCommand, FitHeader, placeCommand, placeHeader, command-here, header-here, command-size, header-size, command-meaning, header-meaning}
@@ -195,7 +195,7 @@ module _ (letters : Letters) where
 
   -- The walk's step
 
-  unfoldable pub placeFrame : ℕ → FrameMeaning → WithTape (FrameOf Returned Span)
+  unfoldable pub placeFrame : ℕ → FrameMeaning → WithTape (FrameOf Pooled Span)
   placeFrame p f = payloadWithTape (f .channel) (placePayload (p + 7) (f .payload))
 
   pub step-here : {s : List ℕ} {p : ℕ} (f : FrameMeaning) (slots room : ℕ) → FitFrame f → zero < slots → valuesOf (f .payload) ≤ room → Stands s p (octetsOfMeaning letters f)
@@ -226,7 +226,7 @@ module _ (letters : Letters) where
       λ i. record { channel = c i; payload = e i }
 
   -- where it ends: it consumes 8 octets at least, within the octets
-  pub step-move : (s : List ℕ) (p slots room : ℕ) (x : WithTape (FrameOf Returned Span)) (n : ℕ) → walkStepAt letters s p slots room ≡ given x n → (p + 8 ≤ n) × (n ≤ length s) × (zero < slots)
+  pub step-move : (s : List ℕ) (p slots room : ℕ) (x : WithTape (FrameOf Pooled Span)) (n : ℕ) → walkStepAt letters s p slots room ≡ given x n → (p + 8 ≤ n) × (n ≤ length s) × (zero < slots)
   unfolding walkStepAt frameWithPayloadAt
   step-move s p slots room x n e =
       then-go (decodeAt s p) _ x n e
@@ -265,7 +265,7 @@ module _ (letters : Letters) where
       go false false true h = none-of (body (record { start = p; len = length s - p })) (length s) refl h
       go false false false h = none-of heartbeat p refl ((need-given (leb (length s) p) _ _ x q h) .1)
 
-  pub step-room : (s : List ℕ) (p slots room : ℕ) (x : WithTape (FrameOf Returned Span)) (n : ℕ) → walkStepAt letters s p slots room ≡ given x n → length (x .tape) ≤ room
+  pub step-room : (s : List ℕ) (p slots room : ℕ) (x : WithTape (FrameOf Pooled Span)) (n : ℕ) → walkStepAt letters s p slots room ≡ given x n → length (x .tape) ≤ room
   unfolding walkStepAt frameWithPayloadAt
   step-room s p slots room x n e =
       then-go (decodeAt s p) _ x n e

@@ -2,7 +2,7 @@
 use mathlib.Core.Path.{_≡_, refl, sym, ap, _∙_}
 use mathlib.Core.Option.{none, some}
 use mathlib.Core.List.{List, [], _∷_, map-map, append-nil, IsPrefix}
-use Prim.Native.Nat.{ℕ, zero, suc, _+_, _-_, _≤_}
+use Prim.Native.Nat.{ℕ, zero, suc, _+_, _≤_}
 use native.Mathlib.Omega.{arith}
 use lib.ListN.{length, take, drop, take-append-drop}
 use lib.Seq.{length-take-le, take-all}
@@ -19,9 +19,7 @@ use Rattle.tables.specs.Letters.{Letters, errata}
 use Rattle.tables.specs.Tape.{Record, tapeRecords}
 use Rattle.tables.proofs.JudgeLaws.{Octets}
 use Rattle.tables.proofs.TapeLaws.{length-concatMap, held}
-use Rattle.method.specs.Fields.{Returned}
-use Rattle.method.specs.Pooled.{sentCommand, sentHeader}
-use Rattle.method.proofs.PooledLaws.{command-passes, header-passes}
+use Rattle.method.specs.Fields.{Pooled}
 use Rattle.method.proofs.MethodLaws.{command-fit, header-fit}
 use Rattle.frame.specs.Step.{Payload, command, header, body, heartbeat, FrameOf, walkStepAt}
 use Rattle.frame.specs.Walk.{Entry, registerRecords, walkFrom, walk, meaningAt, listAt, returned}
@@ -37,10 +35,10 @@ first-all C zero ws = refl
 first-all C (suc n) ws = ap suc (first-all C n (drop (C .size) ws))
 
 module _ (letters : Letters) (octet : Octets letters) where
-  payload-fit : (pool tape : List ℕ) (x : Payload Returned Span) → Typed letters pool tape x → payloadRefusal letters pool tape x ≡ none → NoNul letters pool tape x
+  payload-fit : (pool tape : List ℕ) (x : Payload Pooled Span) → Typed x → payloadRefusal letters pool tape x ≡ none → NoNul (sentPayloadMeaning letters pool tape x)
       → FitPayload letters (sentPayloadMeaning letters pool tape x)
-  payload-fit pool tape (command x) t e z = command-fit letters octet (sentCommand letters pool tape x) t (command-passes letters pool tape x e) z
-  payload-fit pool tape (header x) t e z = header-fit letters octet (sentHeader letters pool tape x) t (header-passes letters pool tape x e)
+  payload-fit pool tape (command x) t e z = command-fit letters octet pool tape x t e z
+  payload-fit pool tape (header x) t e z = header-fit letters octet pool tape x t e
   payload-fit pool tape (body v) t e z = tt
   payload-fit pool tape heartbeat t e z = tt
 
@@ -53,7 +51,7 @@ module _ (letters : Letters) (octet : Octets letters) where
       (a .channel, payload-fit (f .pool) (f .tape) (f .payload) (a .typed) (b .0) (a .noNul), omega arith)
 
   -- the senders' frames, and that they meet the laws
-  sent : Framing SentFrame (FrameOf Returned Span) FrameMeaning
+  sent : Framing SentFrame (FrameOf Pooled Span) FrameMeaning
   sent =
       record {
         Accepted = Accepted letters;

@@ -14,7 +14,7 @@ use Rattle.types.proofs.Splice.{splice-nil, splice-after}
 use Rattle.tables.specs.Letters.{Letters}
 use Rattle.tables.specs.Tape.{Record, tapeRecords, WithTape}
 use Rattle.tables.proofs.TapeLaws.{length-concatMap, concatMap-append}
-use Rattle.method.specs.Fields.{Returned}
+use Rattle.method.specs.Fields.{Pooled}
 use Rattle.frame.specs.Step.{FrameOf, walkStepAt}
 use Rattle.frame.specs.Walk.{registerRecords, WalkResult, ended, push, walkFrom, WalkOutcome, outcomeOfWalk, walk}
 use Rattle.frame.proofs.ListLaws.{walk-none, walk-stop, walk-agree, walk-step}
@@ -25,7 +25,7 @@ module _ (letters : Letters) where
   abbrev pub walkOn : List ℕ → ℕ → ℕ → ℕ → ℕ → WalkResult
   walkOn s p slots room used = walkFrom (walkStepAt letters) (length s) s p slots room used
 
-  on : (s : List ℕ) (p slots room used : ℕ) (l : FrameOf Returned Span) (n : ℕ) (rs : List Record) → walkStepAt letters s p slots room ≡ given (record { value = l; tape = rs }) n → p < n
+  on : (s : List ℕ) (p slots room used : ℕ) (l : FrameOf Pooled Span) (n : ℕ) (rs : List Record) → walkStepAt letters s p slots room ≡ given (record { value = l; tape = rs }) n → p < n
   on s p slots room used l n rs e = let a = step-move letters s p slots room (record { value = l; tape = rs }) n e in omega (arith, a .0)
 
   pub on-end : (s : List ℕ) (p slots room used : ℕ) → length s ≤ p → walkOn s p slots room used ≡ ended p none
@@ -36,7 +36,7 @@ module _ (letters : Letters) where
       walk-agree (walkStepAt letters) on (length s) (suc (length s)) s p slots room used (omega arith) (omega arith)
       ∙ walk-stop (walkStepAt letters) (length s) s p slots room used r h e
 
-  pub on-step : (s : List ℕ) (p slots room used : ℕ) (x : WithTape (FrameOf Returned Span)) (n : ℕ) → p < length s → walkStepAt letters s p slots room ≡ given x n
+  pub on-step : (s : List ℕ) (p slots room used : ℕ) (x : WithTape (FrameOf Pooled Span)) (n : ℕ) → p < length s → walkStepAt letters s p slots room ≡ given x n
       → walkOn s p slots room used ≡ push p used (x .tape) (walkOn s n (slots - 1) (room - length (x .tape)) (used + length (x .tape)))
   on-step s p slots room used x n h e = walk-step (walkStepAt letters) on s p slots room used (x .value) n (x .tape) h e
 

@@ -2,7 +2,7 @@
 use Prim.Native.Nat.{ℕ}
 use mathlib.Core.Option.{Option, none, some}
 use Rattle.types.specs.declared.Span.{Span}
-use Rattle.method.specs.Fields.{Returned}
+use Rattle.method.specs.Fields.{Pooled}
 use Rattle.method.specs.AnswerOf.{commandOf, headerOf}
 use Rattle.frame.specs.Frame.{Frame}
 use Rattle.frame.specs.Step.{Payload, command, header, body, heartbeat}
@@ -27,7 +27,7 @@ typeOfKnown Unknown = none
 abbrev pub frameOf : CodeFrame → Frame
 frameOf f = record { type = typeOctet (f .«frame_type»); channel = f .channel; payload = f .payload }
 
-abbrev pub payloadOf : CodePayload → Payload Returned Span
+abbrev pub payloadOf : CodePayload → Payload Pooled Span
 payloadOf (payload.Command x) = command (commandOf x)
 payloadOf (payload.Header x) = header (headerOf x)
 payloadOf (payload.Body v) = body v

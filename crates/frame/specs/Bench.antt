@@ -14,11 +14,11 @@ use Rattle.tables.specs.Forest as forest
 use Rattle.tables.specs.Forest.{item, words, LocatedTable}
 use Rattle.tables.specs.Reading.{noName, tableAt, loneValueAt}
 use Rattle.tables.specs.Writing.{writeLoneValue}
-use Rattle.method.specs.Fields.{Sent, Returned}
+use Rattle.method.specs.Fields.{Meaning, Pooled}
 use Rattle.method.specs.Commands.{commands, fieldsOf, Command, call}
 use Rattle.method.specs.Properties.{properties, select, Header, header}
-use Rattle.method.specs.Writing.{sentCommandMeaning, commandOctets}
-use Rattle.method.specs.Pooled.{writeHeaderPooled}
+use Rattle.method.specs.Writing.{commandOctets}
+use Rattle.method.specs.Pooled.{writeHeader}
 use Rattle.frame.specs.Frame.{decodeAt}
 use Rattle.frame.specs.Step.{command, heartbeat, stepAt}
 use Rattle.frame.specs.Writing.{SentFrame, octetsOfFrame}
@@ -40,12 +40,12 @@ unfolding commands fieldsOf
 ack = record { channel = 1; payload = command (call 60 80 (5, ((true ∷ []), tt))); pool = []; tape = [] }
 
 -- delivery-mode 2 alone
-unfoldable pub persistent : Header Returned
+unfoldable pub persistent : Header Pooled
 unfolding select properties
 persistent =
     header 60 0 (false ∷ false ∷ false ∷ true ∷ false ∷ false ∷ false ∷ false ∷ false ∷ false ∷ false ∷ false ∷ false ∷ []) (2, tt)
 
-unfoldable pub loginOf : List ℕ → List ℕ → Command Sent
+unfoldable pub loginOf : List ℕ → List ℕ → Command Meaning
 unfolding commands fieldsOf
 loginOf user password = call 10 11 (record { user = user; password = password }, tt)
 
@@ -76,7 +76,7 @@ pub record BenchSheet : Type 0 where
   pub line-11 : (loneValueAt errata (116 ∷ 2 ∷ []) 0 1 ≡ given (alone 116 1) 2) × (writeLoneValue errata [] (tapeOf 116 1) 0 (zeros 2) ≡ outcome (given tt 2) (116 ∷ 1 ∷ []))
   pub line-12 : (loneValueAt errata (102 ∷ 127 ∷ 192 ∷ 0 ∷ 1 ∷ []) 0 1 ≡ given (alone 102 2143289345) 5)
       × (writeLoneValue errata [] (tapeOf 102 2143289345) 0 (zeros 5) ≡ outcome (given tt 5) (102 ∷ 127 ∷ 192 ∷ 0 ∷ 1 ∷ []))
-  pub line-13 : writeHeaderPooled errata [] [] persistent 0 (zeros 15) ≡ outcome (given tt 15) (0 ∷ 60 ∷ 0 ∷ 0 ∷ 0 ∷ 0 ∷ 0 ∷ 0 ∷ 0 ∷ 0 ∷ 0 ∷ 0 ∷ 16 ∷ 0 ∷ 2 ∷ [])
+  pub line-13 : writeHeader errata [] [] persistent 0 (zeros 15) ≡ outcome (given tt 15) (0 ∷ 60 ∷ 0 ∷ 0 ∷ 0 ∷ 0 ∷ 0 ∷ 0 ∷ 0 ∷ 0 ∷ 0 ∷ 0 ∷ 16 ∷ 0 ∷ 2 ∷ [])
   pub line-14 : writeLoneValue errata [] (tapeOf 84 1700000001) 0 (zeros 9) ≡ outcome (given tt 9) (84 ∷ 0 ∷ 0 ∷ 0 ∷ 0 ∷ 101 ∷ 83 ∷ 241 ∷ 1 ∷ [])
-  pub line-15 : commandOctets errata (sentCommandMeaning errata (loginOf (97 ∷ []) (98 ∷ 0 ∷ 99 ∷ []))) ≡ commandOctets errata (sentCommandMeaning errata (loginOf (97 ∷ 0 ∷ 98 ∷ []) (99 ∷ [])))
+  pub line-15 : commandOctets errata (loginOf (97 ∷ []) (98 ∷ 0 ∷ 99 ∷ [])) ≡ commandOctets errata (loginOf (97 ∷ 0 ∷ 98 ∷ []) (99 ∷ []))
   pub line-16 : (consumed (tableAt errata (longStr (nested 15)) 0 15) ≡ length (longStr (nested 15))) × (tableAt errata (longStr (nested 16)) 0 16 ≡ refused tooDeep)

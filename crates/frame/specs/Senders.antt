@@ -12,9 +12,8 @@ use Rattle.types.specs.Records.{concatMap, recordCount}
 use Rattle.types.specs.declared.Span.{Span}
 use Rattle.tables.specs.Letters.{Letters}
 use Rattle.tables.specs.Tape.{tapeRecords}
-use Rattle.method.specs.Fields.{Meaning, Returned}
+use Rattle.method.specs.Fields.{Meaning, Pooled}
 use Rattle.method.specs.Writing.{commandValues, headerValues, TypedCommand, TypedHeader, NoNulCommand}
-use Rattle.method.specs.Pooled.{sentCommand, sentHeader}
 use Rattle.frame.specs.Step.{Payload, command, header, body, heartbeat}
 use Rattle.frame.specs.Writing.{SentFrame, FrameMeaning, sentFrameMeaning, octetsOfFrame, frameRefusal}
 use Rattle.frame.specs.Walk.{registerRecords, WalkOutcome, walk, returned}
@@ -39,27 +38,27 @@ unfoldable pub upTo : {F : Type 0} → (F → List ℕ) → ℕ → ℕ → List
 upTo octetsOf p n [] = []
 upTo octetsOf p n (f ∷ fs) = cond (leb (p + length (octetsOf f)) n) (f ∷ upTo octetsOf (p + length (octetsOf f)) n fs) []
 
+-- in the ranges of the writer's parameter types
+abbrev pub Typed : Payload Pooled Span → Type 0
+Typed (command x) = TypedCommand x
+Typed (header x) = TypedHeader x
+Typed (body v) = Unit {0}
+Typed heartbeat = Unit {0}
+
+-- no NUL octet in a login's user
+abbrev pub NoNul : Payload Meaning (List ℕ) → Type 0
+NoNul (command x) = NoNulCommand x
+NoNul (header x) = Unit {0}
+NoNul (body xs) = Unit {0}
+NoNul heartbeat = Unit {0}
+
 module _ (letters : Letters) where
-  -- in the ranges of the writer's parameter types
-  abbrev pub Typed : List ℕ → List ℕ → Payload Returned Span → Type 0
-  Typed pool tape (command x) = TypedCommand (sentCommand letters pool tape x)
-  Typed pool tape (header x) = TypedHeader (sentHeader letters pool tape x)
-  Typed pool tape (body v) = Unit {0}
-  Typed pool tape heartbeat = Unit {0}
-
-  -- no NUL octet in a login's user
-  abbrev pub NoNul : List ℕ → List ℕ → Payload Returned Span → Type 0
-  NoNul pool tape (command x) = NoNulCommand (sentCommand letters pool tape x)
-  NoNul pool tape (header x) = Unit {0}
-  NoNul pool tape (body v) = Unit {0}
-  NoNul pool tape heartbeat = Unit {0}
-
   -- the writers accept a frame when, given space enough, none of them refuses it
   pub record Accepted (f : SentFrame) : Type 0 where
     pub channel : f .channel < 256 ^ 2
-    pub typed : Typed (f .pool) (f .tape) (f .payload)
+    pub typed : Typed (f .payload)
     pub passes : frameRefusal letters f ≡ none
-    pub noNul : NoNul (f .pool) (f .tape) (f .payload)
+    pub noNul : NoNul (sentFrameMeaning letters f .payload)
 
   -- a list's octets are those of its frames, joined in order
   abbrev pub octets : List SentFrame → List ℕ

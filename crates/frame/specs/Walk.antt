@@ -12,7 +12,7 @@ use Rattle.types.specs.Records.{RecordFormat, concatMap, firstRecords, recordCo
 use Rattle.types.specs.declared.Span.{Span}
 use Rattle.tables.specs.Letters.{Letters}
 use Rattle.tables.specs.Tape.{Record, tapeRecords, WithTape}
-use Rattle.method.specs.Fields.{Meaning, Returned}
+use Rattle.method.specs.Fields.{Meaning, Pooled}
 use Rattle.frame.specs.Step.{FrameOf, stepAt, walkStepAt, frameMeaning}
 
 -- first octet; tape records used before it; tape records of its own
@@ -86,7 +86,7 @@ module _ (letters : Letters) where
       (walkFrom (walkStepAt letters) (length s) s 0 (recordCount registerRecords register) (recordCount tapeRecords tape) 0)
 
   -- the meaning of the step's answer at a registered octet, with the tape records registered for it
-  abbrev pub meaningAt : List ℕ → Answer (WithTape (FrameOf Returned Span)) → List Record → Option (FrameOf Meaning (List ℕ))
+  abbrev pub meaningAt : List ℕ → Answer (WithTape (FrameOf Pooled Span)) → List Record → Option (FrameOf Meaning (List ℕ))
   meaningAt s (given x n) rs = some (frameMeaning letters s (x .value) rs)
   meaningAt s (refused r) rs = none
 

@@ -11,16 +11,16 @@ use Rattle.types.specs.declared.Span.{Span}
 use Rattle.writers.specs.Writers.{writeAt}
 use Rattle.tables.specs.Letters.{Letters}
 use Rattle.tables.specs.Writing.{inPool}
-use Rattle.method.specs.Fields.{Kind, Meaning, Returned}
+use Rattle.method.specs.Fields.{Kind, Meaning, Pooled}
 use Rattle.method.specs.Writing.{commandOctets, headerOctets}
-use Rattle.method.specs.Pooled.{commandRefusalPooled, headerRefusalPooled, pooledCommandMeaning, pooledHeaderMeaning}
+use Rattle.method.specs.Pooled.{commandRefusal, headerRefusal, pooledCommandMeaning, pooledHeaderMeaning}
 use Rattle.frame.specs.Frame.{frameOctets}
 use Rattle.frame.specs.Step.{Payload, command, header, body, heartbeat, FrameOf}
 
 -- a frame as a sender hands it to the writer: its strings and its body are spans of the pool, its table is the tape
 pub record SentFrame : Type 0 where
   pub channel : ℕ
-  pub payload : Payload Returned Span
+  pub payload : Payload Pooled Span
   pub pool : List ℕ
   pub tape : List ℕ
 
@@ -35,7 +35,7 @@ typeOf (body b) = 3
 typeOf heartbeat = 8
 
 module _ (letters : Letters) where
-  abbrev pub sentPayloadMeaning : List ℕ → List ℕ → Payload Returned Span → Payload Meaning (List ℕ)
+  abbrev pub sentPayloadMeaning : List ℕ → List ℕ → Payload Pooled Span → Payload Meaning (List ℕ)
   sentPayloadMeaning pool tape (command x) = command (pooledCommandMeaning letters pool tape x)
   sentPayloadMeaning pool tape (header x) = header (pooledHeaderMeaning letters pool tape x)
   sentPayloadMeaning pool tape (body v) = body (octetsOf pool v)
@@ -57,9 +57,9 @@ module _ (letters : Letters) where
   abbrev pub octetsOfFrame : SentFrame → List ℕ
   octetsOfFrame f = octetsOfMeaning (sentFrameMeaning f)
 
-  abbrev pub payloadRefusal : List ℕ → List ℕ → Payload Returned Span → Option Refusal
-  payloadRefusal pool tape (command x) = commandRefusalPooled letters pool tape x
-  payloadRefusal pool tape (header x) = headerRefusalPooled letters pool tape x
+  abbrev pub payloadRefusal : List ℕ → List ℕ → Payload Pooled Span → Option Refusal
+  payloadRefusal pool tape (command x) = commandRefusal letters pool tape x
+  payloadRefusal pool tape (header x) = headerRefusal letters pool tape x
   payloadRefusal pool tape (body v) = test (inPool pool (v .start) (v .len)) truncated none
   payloadRefusal pool tape heartbeat = none
 

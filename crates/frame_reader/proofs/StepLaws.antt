@@ -12,7 +12,7 @@ use Rattle.types.proofs.Splice.{splice-nil}
 use Rattle.types.proofs.Tests.{leb-yes, leb-no}
 use Rattle.tables.specs.Letters.{Letters}
 use Rattle.tables.specs.Tape.{WithCount, roomOf, fillTape, recordsOnly}
-use Rattle.method.specs.Fields.{Located, Returned}
+use Rattle.method.specs.Fields.{Located, Pooled}
 use Rattle.method.specs.Commands.{Command}
 use Rattle.method.specs.Properties.{Header}
 use Rattle.method.specs.Reading.{commandAt, headerAt, commandWithTape, headerWithTape, readCommand, readHeader}
@@ -33,13 +33,13 @@ module _ (letters : Letters) (s : List ℕ) (frame : Frame) (next used : ℕ) (t
   abbrev here : List ℕ
   here = take (frame .payload .start + frame .payload .len) s
 
-  abbrev pub frameRead : Outcome (WithCount (FrameOf Returned Span))
+  abbrev pub frameRead : Outcome (WithCount (FrameOf Pooled Span))
   frameRead = fillTape used tape (frameWithPayloadAt letters s frame next (roomOf used tape))
 
-  abbrev pub withCommand : Command Returned → FrameOf Returned Span
+  abbrev pub withCommand : Command Pooled → FrameOf Pooled Span
   withCommand x = record { channel = frame .channel; payload = command x }
 
-  abbrev pub withHeader : Header Returned → FrameOf Returned Span
+  abbrev pub withHeader : Header Pooled → FrameOf Pooled Span
   withHeader x = record { channel = frame .channel; payload = header x }
 
   pub method-read : frame .type ≡ 1 → frameRead ≡ framed withCommand next (readCommand letters here (frame .payload .start) used tape)

@@ -14,7 +14,7 @@ use Rattle.types.proofs.Splice.{splice-length}
 use Rattle.tables.specs.Letters.{Letters}
 use Rattle.tables.specs.Tape.{tapeRecords, WithTape, WithCount, roomOf}
 use Rattle.tables.proofs.TapeLaws.{length-concatMap}
-use Rattle.method.specs.Fields.{Returned}
+use Rattle.method.specs.Fields.{Pooled}
 use Rattle.frame.specs.Step.{FrameOf, walkStepAt}
 use Rattle.frame.specs.Walk.{registerRecords, WalkResult, ended, push, WalkOutcome, walk}
 use Rattle.frame.proofs.FrameLaws.{step-move, step-room}
@@ -67,7 +67,7 @@ module _ (letters : Letters) where
   went at used k tape register (refused r) e = let z : _≡_ {A = ℕ} 0 1 = cc in absurd (omega arith)
 
   module _ (s tape₀ register₀ tape register : List ℕ) (at used k : ℕ) (go : Going s tape₀ register₀ tape register at used k) where
-    abbrev step : Answer (WithTape (FrameOf Returned Span))
+    abbrev step : Answer (WithTape (FrameOf Pooled Span))
     step = walkStepAt letters s at (slotsOf k register) (roomOf used tape)
 
     -- no octet is left
@@ -82,7 +82,7 @@ module _ (letters : Letters) where
       pub stop : {r : Refusal} {after entered : List ℕ} → stepOutcome (refused r) after entered ≡ walked letters s at used k tape register → stopped after entered at k r ≡ walk letters s tape₀ register₀
       stop {r} {after} {entered} e = by step refl e
         where
-          by : (a : Answer (WithTape (FrameOf Returned Span))) → step ≡ a → stepOutcome (refused r) after entered ≡ fillBoth at used k tape register a → stopped after entered at k r ≡ walk letters s tape₀ register₀
+          by : (a : Answer (WithTape (FrameOf Pooled Span))) → step ≡ a → stepOutcome (refused r) after entered ≡ fillBoth at used k tape register a → stopped after entered at k r ≡ walk letters s tape₀ register₀
           by (given x n) t q = let z : _≡_ {A = ℕ} 0 1 = cc in absurd (omega arith)
           by (refused p) t q =
               let er : r ≡ p = cc in

@@ -12,7 +12,7 @@ use Rattle.types.proofs.Chain.{given-value}
 use Rattle.types.proofs.Tests.{leb-yes, leb-no}
 use Rattle.tables.specs.Letters.{Letters}
 use Rattle.tables.specs.Tape.{WithTape, WithCount, roomOf, fillTape, recordsOnly}
-use Rattle.method.specs.Fields.{Returned}
+use Rattle.method.specs.Fields.{Pooled}
 use Rattle.frame.specs.Frame.{Frame, decodeAt}
 use Rattle.frame.specs.Step.{FrameOf, frameWithPayloadAt, walkStepAt}
 use Rattle.frame.specs.Walk.{registerRecords}

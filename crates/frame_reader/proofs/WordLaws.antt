@@ -19,7 +19,7 @@ use Rattle.types.proofs.NumberLaws.{Octets}
 use Rattle.types.proofs.Tests.{decide}
 use Rattle.tables.specs.Letters.{Letters}
 use Rattle.tables.specs.Tape.{WithTape, WithCount, roomOf, recordsOnly}
-use Rattle.method.specs.Fields.{Located, Returned}
+use Rattle.method.specs.Fields.{Located, Pooled}
 use Rattle.method.specs.Commands.{fieldsOf, Command, call}
 use Rattle.method.specs.Properties.{Header}
 use Rattle.method.specs.Reading.{commandAt, headerAt, commandWithTape, headerWithTape}
@@ -62,7 +62,7 @@ module _ {A B : Type 0} (f : A → B) (words put : B → List ℕ) (lent before 
 pub of-frame : {B : Type 0} {x y : Answer (WithCount B)} {w t : List ℕ} {z : WordsOutcome B} → x ≡ y → wordsOutcome y w t ≡ z → wordsOutcome x w t ≡ z
 of-frame {w = w} {t = t} e h = ap (λ x. wordsOutcome x w t) e ∙ h
 
-pub put-framed : (f : FrameOf Returned Span) (next : ℕ) (before p t : List ℕ) (whole : Outcome (WithCount (FrameOf Returned Span))) → p ≡ payloadWords (f .payload)
+pub put-framed : (f : FrameOf Pooled Span) (next : ℕ) (before p t : List ℕ) (whole : Outcome (WithCount (FrameOf Pooled Span))) → p ≡ payloadWords (f .payload)
     → outcome (given (record { value = f; count = 0 }) next) t ≡ whole
     → wordsOutcome (given (record { value = record { channel = f .channel; payload = p }; count = 0 }) next) p t ≡ inWords frameWords (λ x. x .payload) before whole
 put-framed f next before p t whole e h =
@@ -72,7 +72,7 @@ put-framed f next before p t whole e h =
 abbrev channelled : ℕ → ℕ → WordsOutcome (List ℕ) → WordsOutcome FrameWords
 channelled channel next (wordsOutcome a w t) = wordsOutcome (withChannel channel next a) w t
 
-pub framed-words : {A : Type 0} (put : A → List ℕ) (f : A → FrameOf Returned Span) (channel next : ℕ) (before : List ℕ) (o : Outcome (WithCount A)) {whole : Outcome (WithCount (FrameOf Returned Span))} {a : Answer (WithCount (List ℕ))} {w t : List ℕ}
+pub framed-words : {A : Type 0} (put : A → List ℕ) (f : A → FrameOf Pooled Span) (channel next : ℕ) (before : List ℕ) (o : Outcome (WithCount A)) {whole : Outcome (WithCount (FrameOf Pooled Span))} {a : Answer (WithCount (List ℕ))} {w t : List ℕ}
     → whole ≡ framed f next o → ((x : A) → frameWords (f x) ≡ record { channel = channel; payload = put x }) → wordsOutcome a w t ≡ inWords put (λ p. p) before o
     → wordsOutcome (withChannel channel next a) w t ≡ inWords frameWords (λ x. x .payload) before whole
 framed-words put f channel next before o h same e = ap (channelled channel next) e ∙ go o ∙ ap (inWords frameWords (λ x. x .payload) before) (sym h)
@@ -109,12 +109,12 @@ octets-taken (suc n) [] o i = lit< tt
 octets-taken (suc n) (x ∷ s) o zero = o 0
 octets-taken (suc n) (x ∷ s) o (suc i) = octets-taken n s (λ j. o (suc j)) i
 
-eight-words : (x : Command Returned) → length (callOf x .words) ≡ 8
+eight-words : (x : Command Pooled) → length (callOf x .words) ≡ 8
 eight-words (call c m vs) =
     let ws = argsWords (fieldsOf c m) vs in
     omega (arith, length-append ws (drop (length ws) (zeros 8)), length-drop (length ws) (zeros 8), length-words (fieldsOf c m) vs, command-widths c m)
 
-command-from : (x : Command Returned) → commandWith (callOf x .class) (callOf x .method) (callOf x .words) ≡ some x
+command-from : (x : Command Pooled) → commandWith (callOf x .class) (callOf x .method) (callOf x .words) ≡ some x
     → payloadFrom (callWords (callOf x)) ≡ inl (command x)
 command-from x e =
     let ws = callOf x .words in
@@ -122,14 +122,14 @@ command-from x e =
     ap (λ (l : List ℕ). commandOr (callOf x .class) (callOf x .method) (commandWith (callOf x .class) (callOf x .method) l)) taken
     ∙ ap (commandOr (callOf x .class) (callOf x .method)) e
 
-header-from : (x : Header Returned) → headerWords x .class < 65536
+header-from : (x : Header Pooled) → headerWords x .class < 65536
     → headerWith (headerWords x .class) (headerWords x .«body_size») (headerWords x .present % 8192) (headerWords x .words) ≡ x
     → payloadFrom (contentHeaderWords (headerWords x)) ≡ inl (header x)
 header-from x small e =
     ap (λ (c : ℕ). inl (header (headerWith c (headerWords x .«body_size») (headerWords x .present % 8192) (headerWords x .words)))) (mod-eq-of-lt small)
     ∙ ap (λ y. inl (header y)) e
 
-abbrev Kept : Payload Returned Span → Type 0
+abbrev Kept : Payload Pooled Span → Type 0
 Kept x = payloadFrom (payloadWords x) ≡ inl x
 
 payload-kept : (letters : Letters) (type : ℕ) (s : List ℕ) (p room : ℕ) (x : Payload Located Span) (q channel : ℕ) → Octets s → payloadAt letters type s p room ≡ given x q
@@ -156,7 +156,7 @@ payload-kept letters type s p room x q channel o e =
     let same : heartbeat ≡ x = given-value _ _ p q (need-given (leb (length s) p) (notWritten p) (given heartbeat p) x q (rw (n1, n2, n3) at e) .1) in
     rw (← same) refl)))
 
-frame-kept : (letters : Letters) (s : List ℕ) (at used : ℕ) (tape : List ℕ) → Octets s → (x : FrameOf Returned Span) (k n : ℕ) (memory : List ℕ)
+frame-kept : (letters : Letters) (s : List ℕ) (at used : ℕ) (tape : List ℕ) → Octets s → (x : FrameOf Pooled Span) (k n : ℕ) (memory : List ℕ)
     → readFrame letters s at used tape ≡ outcome (given (record { value = x; count = k }) n) memory → Kept (x .payload)
 unfolding readFrame stepAt frameWithPayloadAt
 frame-kept letters s at used tape o x k n memory e =
@@ -167,7 +167,7 @@ frame-kept letters s at used tape o x k n memory e =
     let end = f .payload .start + f .payload .len in
     then-go (payloadAt letters (f .type) (take end s) (f .payload .start) (roomOf used tape)) _ y n h2
     (λ z q e3 h3.
-    let same : payloadWithTape (f .channel) z .value ≡ x = ap (λ (v : WithTape (FrameOf Returned Span)). v .value) (given-value _ _ m n h3) ∙ h1 in
+    let same : payloadWithTape (f .channel) z .value ≡ x = ap (λ (v : WithTape (FrameOf Pooled Span)). v .value) (given-value _ _ m n h3) ∙ h1 in
     rw (← same) (payload-kept letters (f .type) (take end s) (f .payload .start) (roomOf used tape) z q (f .channel) (octets-taken end s o) e3))))
 
 -- the step, from the step in words
@@ -193,7 +193,7 @@ module _ (letters : Letters) (s : List ℕ) (at used : ℕ) (tape : List ℕ) (r
         let there = ap answerOfPayload (sym e) ∙ is-payload o in
         let value : payloadOf y ≡ read .value .payload = cc in
         let on : channel ≡ read .value .channel = ap (λ (x : FrameWords). x .channel) (read .made) in
-        ap (λ (x : Payload Returned Span). outcome (given (record { value = record { channel = channel; payload = x }; count = k }) (next .at)) t) value
+        ap (λ (x : Payload Pooled Span). outcome (given (record { value = record { channel = channel; payload = x }; count = k }) (next .at)) t) value
         ∙ ap (λ (c : ℕ). outcome (given (record { value = record { channel = c; payload = read .value .payload }; count = k }) (next .at)) t) on
         ∙ sym (read .read)
 

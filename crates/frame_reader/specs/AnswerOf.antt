@@ -6,7 +6,7 @@ use Rattle.types.specs.Answer.{Refusal, Answer, given, refused}
 use Rattle.types.specs.AnswerOf.{refusal}
 use Rattle.types.specs.declared.Span.{Span}
 use Rattle.tables.specs.Tape.{WithCount}
-use Rattle.method.specs.Fields.{Returned}
+use Rattle.method.specs.Fields.{Pooled}
 use Rattle.frame.specs.Frame.{Frame}
 use Rattle.frame.specs.Step.{FrameOf}
 use Rattle.frame.specs.Walk.{WalkOutcome}
@@ -28,7 +28,7 @@ abbrev pub answerOfDecoded : Decoded → Answer Frame
 answerOfDecoded (decoded.Value f next) = given (frameOf f) (next .at)
 answerOfDecoded (decoded.Refused e) = refused (refusal e)
 
-abbrev pub answerOfReadFrame : ReadFrame → Answer (WithCount (FrameOf Returned Span))
+abbrev pub answerOfReadFrame : ReadFrame → Answer (WithCount (FrameOf Pooled Span))
 answerOfReadFrame (read.Value ch x records next) = given (record { value = record { channel = ch; payload = payloadOf x }; count = records }) (next .at)
 answerOfReadFrame (read.Refused e) = refused (refusal e)
 

@@ -4,7 +4,7 @@ use Prim.Native.Nat.{ℕ}
 use Rattle.types.specs.Answer.{Answer, given, refused}
 use Rattle.types.specs.declared.Span.{Span}
 use Rattle.tables.specs.Tape.{WithCount}
-use Rattle.method.specs.Fields.{Returned}
+use Rattle.method.specs.Fields.{Pooled}
 use Rattle.frame.specs.Step.{FrameOf}
 use Rattle.payload_words.specs.Words.{payloadWords}
 
@@ -12,7 +12,7 @@ pub record FrameWords : Type 0 where
   pub channel : ℕ
   pub payload : List ℕ
 
-abbrev pub frameWords : FrameOf Returned Span → FrameWords
+abbrev pub frameWords : FrameOf Pooled Span → FrameWords
 frameWords x = record { channel = x .channel; payload = payloadWords (x .payload) }
 
 -- what was read of a payload, as the answer of a frame that ends at `next`

@@ -20,23 +20,23 @@ use Rattle.writers.proofs.WriterLaws.{write-refused}
 use Rattle.tables.specs.Letters.{errata}
 use Rattle.tables.specs.Writing.{inPool}
 use Rattle.table_writer.specs.Sizes.{sized}
-use Rattle.method.specs.Fields.{Returned}
+use Rattle.method.specs.Fields.{Pooled}
 use Rattle.frame.specs.Step.{Payload, command, header, body, heartbeat}
 use Rattle.frame.specs.Writing.{typeOf, sentPayloadMeaning, payloadRefusal, frameRefusal, writeFrame}
 use Rattle.frame_writer.specs.Parts.{payloadOctets}
 use Rattle.frame_writer.proofs.PayloadLaws.{Judged, writeWith}
 
 module _ (pool tape : List ℕ) where
-  abbrev pub payloadJudged : Payload Returned Span → Judged
+  abbrev pub payloadJudged : Payload Pooled Span → Judged
   payloadJudged x = record { refusal = payloadRefusal errata pool tape x; octets = payloadOctets pool tape x }
 
-  type-sent : (x : Payload Returned Span) → typeOf (sentPayloadMeaning errata pool tape x) ≡ typeOf x
+  type-sent : (x : Payload Pooled Span) → typeOf (sentPayloadMeaning errata pool tape x) ≡ typeOf x
   type-sent (command x) = refl
   type-sent (header x) = refl
   type-sent (body v) = refl
   type-sent heartbeat = refl
 
-  pub frame-with : (x : Payload Returned Span) {t : ℕ} (ch at : ℕ) (out : List ℕ) → t ≡ typeOf x
+  pub frame-with : (x : Payload Pooled Span) {t : ℕ} (ch at : ℕ) (out : List ℕ) → t ≡ typeOf x
       → writeWith t ch (payloadJudged x) at out ≡ writeFrame errata (record { channel = ch; payload = x; pool = pool; tape = tape }) at out
   unfolding writeWith writeFrame frameRefusal
   frame-with x ch at out e = rw (e ∙ sym (type-sent x))

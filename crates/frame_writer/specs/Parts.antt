@@ -10,7 +10,7 @@ use Rattle.types.specs.Answer.{Refusal, tooLong, noSpace}
 use Rattle.types.specs.Octets.{octets}
 use Rattle.types.specs.declared.Span.{Span}
 use Rattle.tables.specs.Letters.{errata}
-use Rattle.method.specs.Fields.{Returned}
+use Rattle.method.specs.Fields.{Pooled}
 use Rattle.frame.specs.Step.{Payload}
 use Rattle.frame.specs.Writing.{sentPayloadMeaning, framePayloadOctets}
 
@@ -30,5 +30,5 @@ whyNot (inl n) = cond (leb n 4294967295) noSpace tooLong
 whyNot (inr r) = r
 
 -- the octets of a payload as they are sent
-abbrev pub payloadOctets : List ℕ → List ℕ → Payload Returned Span → List ℕ
+abbrev pub payloadOctets : List ℕ → List ℕ → Payload Pooled Span → List ℕ
 payloadOctets pool tape x = framePayloadOctets errata (sentPayloadMeaning errata pool tape x)

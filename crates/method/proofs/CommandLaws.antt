@@ -1,13 +1,13 @@
 -- The laws of commands and content headers, for any list of letters. What a writer accepts, with no NUL in a login's user, is read back with
 -- the same meaning and to its last octet, and every strict prefix of it is Truncated. A changed fixed field, a set bit without an argument and
 -- a spare octet are NotWritten at their places, wherever they stand in a command.
-use mathlib.Core.Path.{_≡_, refl, sym, ap, _∙_}
+use mathlib.Core.Path.{_≡_}
 use mathlib.Core.Bool.{Bool, true, false}
 use mathlib.Core.Option.{none}
 use mathlib.Core.List.{List, [], _∷_, _++_}
 use Prim.Native.Nat.{ℕ, _+_, _-_, _*_, _^_, _≤_, _<_}
 use native.Mathlib.Omega.{arith}
-use native.Mathlib.Nat.{add-assoc, add-zero}
+use native.Mathlib.Nat.{add-zero}
 use lib.ListN.{length, length-append}
 use Rattle.types.specs.Answer.{Refusal, given, refused, truncated, notWritten}
 use Rattle.types.specs.Octets.{octets}
@@ -16,10 +16,11 @@ use Rattle.types.proofs.Standing.{Stands, Cut, stands-left, stands-right, cut-s
 use Rattle.types.proofs.RoundTrip.{number-here, number-past, span-here}
 use Rattle.tables.specs.Letters.{Letters}
 use Rattle.tables.proofs.JudgeLaws.{Octets}
-use Rattle.method.specs.Fields.{Kind, Field, fixed, arg, bits, Meaning, Sent, Located, Args}
+use Rattle.method.specs.Fields.{Field, fixed, arg, bits, Meaning, Located, Pooled, Args}
 use Rattle.method.specs.Commands.{known, fieldsOf, Command, call}
 use Rattle.method.specs.Properties.{properties, select, flagsNumber, Header, header}
-use Rattle.method.specs.Writing.{sentCommandMeaning, sentHeaderMeaning, values, valuesIn, commandValues, headerValues, argOctets, fieldOctets, commandOctets, headerOctets, commandRefusal, headerRefusal, TypedCommand, TypedHeader, NoNulCommand}
+use Rattle.method.specs.Writing.{values, valuesIn, commandValues, headerValues, argOctets, fieldOctets, commandOctets, headerOctets, TypedCommand, TypedHeader, NoNulCommand}
+use Rattle.method.specs.Pooled.{commandRefusal, headerRefusal, pooledCommandMeaning, pooledHeaderMeaning}
 use Rattle.method.specs.Reading.{same, flagsIn, argTape, fixedAt, fieldsAt, commandAt, headerAt, commandWithTape, headerWithTape, commandMeaning, headerMeaning}
 use Rattle.method.proofs.FieldLaws.{Fits, place, arg-here, tape-size, same-refl, fields-here, fields-cut, fields-differ, flags-spare}
 use Rattle.method.proofs.MethodLaws.{FitCommand, FitHeader, placeCommand, placeHeader, command-here, header-here, command-meaning, header-meaning, command-fit, header-fit, flags-octets, flags-read}
@@ -140,31 +141,31 @@ module _ (letters : Letters) where
 
 -- What a writer accepts
 
-module _ (letters : Letters) (octet : Octets letters) where
-  module _ (x : Command Sent) (typed : TypedCommand x) (accepted : commandRefusal letters x ≡ none) (noNul : NoNulCommand x) where
+module _ (letters : Letters) (octet : Octets letters) (pool tape : List ℕ) where
+  module _ (x : Command Pooled) (typed : TypedCommand x) (accepted : commandRefusal letters pool tape x ≡ none) (noNul : NoNulCommand (pooledCommandMeaning letters pool tape x)) where
     abbrev commandIs : Command Meaning
-    commandIs = sentCommandMeaning letters x
+    commandIs = pooledCommandMeaning letters pool tape x
 
     pub command-returned : (s : List ℕ) (p room : ℕ) → Stands s p (commandOctets letters commandIs) → length s ≡ p + length (commandOctets letters commandIs) → commandValues commandIs ≤ room
         → (y : Command Located) × (commandAt letters s p room ≡ given y (p + length (commandOctets letters commandIs)))
         × (commandMeaning letters s (commandWithTape y .value) (commandWithTape y .tape) ≡ commandIs)
     command-returned s p room h l k =
-        let f = command-fit letters octet x typed accepted noNul in
+        let f = command-fit letters octet pool tape x typed accepted noNul in
         (placeCommand letters p commandIs, command-here letters commandIs room f k h l, command-meaning letters commandIs f h)
 
     pub command-truncated : (s : List ℕ) (p room : ℕ) → Cut s p (commandOctets letters commandIs) → commandValues commandIs ≤ room → commandAt letters s p room ≡ refused truncated
-    command-truncated s p room c k = command-cut letters commandIs room (command-fit letters octet x typed accepted noNul) k c
+    command-truncated s p room c k = command-cut letters commandIs room (command-fit letters octet pool tape x typed accepted noNul) k c
 
-  module _ (x : Header Sent) (typed : TypedHeader x) (accepted : headerRefusal letters x ≡ none) where
+  module _ (x : Header Pooled) (typed : TypedHeader x) (accepted : headerRefusal letters pool tape x ≡ none) where
     abbrev headerIs : Header Meaning
-    headerIs = sentHeaderMeaning letters x
+    headerIs = pooledHeaderMeaning letters pool tape x
 
     pub header-returned : (s : List ℕ) (p room : ℕ) → Stands s p (headerOctets letters headerIs) → headerValues headerIs ≤ room
         → (y : Header Located) × (headerAt letters s p room ≡ given y (p + length (headerOctets letters headerIs)))
         × (headerMeaning letters s (headerWithTape y .value) (headerWithTape y .tape) ≡ headerIs)
     header-returned s p room h k =
-        let f = header-fit letters octet x typed accepted in
+        let f = header-fit letters octet pool tape x typed accepted in
         (placeHeader letters p headerIs, header-here letters headerIs room f k h, header-meaning letters headerIs f h)
 
     pub header-truncated : (s : List ℕ) (p room : ℕ) → Cut s p (headerOctets letters headerIs) → headerValues headerIs ≤ room → headerAt letters s p room ≡ refused truncated
-    header-truncated s p room c k = header-cut letters headerIs room (header-fit letters octet x typed accepted) k c
+    header-truncated s p room c k = header-cut letters headerIs room (header-fit letters octet pool tape x typed accepted) k c

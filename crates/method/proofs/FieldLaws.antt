@@ -28,7 +28,7 @@ use Rattle.tables.proofs.RoundTrip.{table-here, table-cut, forest-meaning}
 use Rattle.tables.proofs.TapeLaws.{length-flatten, forest-place}
 use Rattle.method.specs.Fields.{Kind, number, shortStr, bits, login, table, Field, fixed, arg, Login, Meaning, Located, Args}
 use Rattle.method.specs.Writing.{placed, howMany, loginText, argOctets, fieldOctets, NoNul, values, valuesIn}
-use Rattle.method.specs.Reading.{same, flagsIn, oneMore, untilNul, loginSpans, argAt, argTape, tapeOf, fixedAt, fieldsAt, returnedArg, returnedArgs, argMeaning, used, argsMeaning}
+use Rattle.method.specs.Reading.{same, flagsIn, oneMore, untilNul, loginSpans, argAt, argTape, tapeOf, fixedAt, fieldsAt, pooledArg, pooledArgs, argMeaning, used, argsMeaning}
 
 -- flags
 bit-odd : (b : Bool) (n : ℕ) → eqb ((bit b + 2 * n) % 2) 1 ≡ b
@@ -168,7 +168,7 @@ module _ (letters : Letters) where
   tape-size login v p = refl
   tape-size table v p = length-flatten (placeForest letters true (p + 4) v) ∙ size-place letters v true (p + 4)
 
-  used-size : (k : Kind) (v : Meaning k) (p : ℕ) → used k (returnedArg k (place k p v)) ≡ length (argTape k (place k p v))
+  used-size : (k : Kind) (v : Meaning k) (p : ℕ) → used k (pooledArg k (place k p v)) ≡ length (argTape k (place k p v))
   unfolding place
   used-size (number k) v p = refl
   used-size shortStr v p = refl
@@ -177,7 +177,7 @@ module _ (letters : Letters) where
   used-size table v p = sym (length-flatten (placeForest letters true (p + 4) v))
 
   pub arg-meaning : {s : List ℕ} {p : ℕ} (k : Kind) (v : Meaning k) (more : List Record) → Fit letters k v → Stands s p (argOctets letters k v)
-      → argMeaning letters k s (returnedArg k (place k p v)) (argTape k (place k p v) ++ more) ≡ v
+      → argMeaning letters k s (pooledArg k (place k p v)) (argTape k (place k p v) ++ more) ≡ v
   unfolding place
   arg-meaning (number k) v more f h = refl
   arg-meaning shortStr v more f h = short-seen v h
@@ -244,8 +244,8 @@ module _ (letters : Letters) where
       ∙ (rw (tape-size k (vs .0) p, tape-sizes fs (vs .1) (p + length (argOctets letters k (vs .0)))))
 
   pub args-meaning : {s : List ℕ} {p : ℕ} (fs : List Field) (vs : Args Meaning fs) → Fits letters fs vs → Stands s p (fieldOctets letters fs vs)
-      → argsMeaning letters fs s (returnedArgs fs (placeAll fs p vs)) (tapeOf fs (placeAll fs p vs)) ≡ vs
-  unfolding argsMeaning returnedArgs tapeOf fieldOctets placeAll
+      → argsMeaning letters fs s (pooledArgs fs (placeAll fs p vs)) (tapeOf fs (placeAll fs p vs)) ≡ vs
+  unfolding argsMeaning pooledArgs tapeOf fieldOctets placeAll
   args-meaning [] vs f h = refl
   args-meaning (fixed xs ∷ fs) vs f h = args-meaning fs vs f (stands-right xs (fieldOctets letters fs vs) h)
   args-meaning {s} {p} (arg k ∷ fs) vs f h =

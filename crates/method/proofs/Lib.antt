@@ -5,6 +5,5 @@ pub mod LayoutLaws
 pub mod WordLaws
 pub mod MethodLaws
 pub mod Bounds
-pub mod PooledLaws
 pub mod FixedLaws
 pub mod CommandLaws

@@ -9,18 +9,18 @@ use lib.Seq.{drop-append-seam}
 use lib.Dec.{eqb}
 use Rattle.bits.specs.Flags.{bit, packBits}
 use Rattle.bits.proofs.FlagLaws.{bit-small}
-use Rattle.method.specs.Fields.{Kind, number, shortStr, bits, login, table, Field, fixed, arg, Returned, Args}
+use Rattle.method.specs.Fields.{Kind, number, shortStr, bits, login, table, Field, fixed, arg, Pooled, Args}
 use Rattle.method.specs.Writing.{howMany}
 use Rattle.method.specs.Words.{width, widths, argWords, argsWords, flagsFrom, argFrom, argsFrom}
 
-length-word : (k : Kind) (v : Returned k) → length (argWords k v) ≡ width (arg k)
+length-word : (k : Kind) (v : Pooled k) → length (argWords k v) ≡ width (arg k)
 length-word (number k) v = refl
 length-word shortStr v = refl
 length-word (bits places) v = refl
 length-word login v = refl
 length-word table v = refl
 
-pub length-words : (fs : List Field) (vs : Args Returned fs) → length (argsWords fs vs) ≡ widths fs
+pub length-words : (fs : List Field) (vs : Args Pooled fs) → length (argsWords fs vs) ≡ widths fs
 unfolding argsWords
 length-words [] vs = refl
 length-words (fixed xs ∷ fs) vs = omega (arith, length-words fs vs)
@@ -29,14 +29,14 @@ length-words (arg k ∷ fs) vs =
 
 -- a flag for each argument in a bit octet
 
-abbrev pub FlagFit : (k : Kind) → Returned k → Type 0
+abbrev pub FlagFit : (k : Kind) → Pooled k → Type 0
 FlagFit (number k) n = Unit {0}
 FlagFit shortStr v = Unit {0}
 FlagFit (bits places) flags = length flags ≡ howMany places
 FlagFit login x = Unit {0}
 FlagFit table n = Unit {0}
 
-abbrev pub FlagsFit : (fs : List Field) → Args Returned fs → Type 0
+abbrev pub FlagsFit : (fs : List Field) → Args Pooled fs → Type 0
 FlagsFit [] vs = Unit {0}
 FlagsFit (fixed xs ∷ fs) vs = FlagsFit fs vs
 FlagsFit (arg k ∷ fs) vs = FlagFit k (vs .0) × FlagsFit fs (vs .1)
@@ -55,17 +55,17 @@ flags-word (true ∷ places) (f ∷ flags) h =
     let half : (bit f + 2 * packBits flags) / 2 ≡ packBits flags = omega (arith, bit-small f) in
     rw (odd, half, bit-one f, flags-word places flags (omega arith))
 
-pub arg-words : (k : Kind) (v : Returned k) (more : List ℕ) → FlagFit k v → argFrom k (argWords k v ++ more) ≡ v
+pub arg-words : (k : Kind) (v : Pooled k) (more : List ℕ) → FlagFit k v → argFrom k (argWords k v ++ more) ≡ v
 arg-words (number k) v more f = refl
 arg-words shortStr v more f = refl
 arg-words (bits places) v more f = flags-word places v f
 arg-words login v more f = refl
 arg-words table v more f = refl
 
-pub drop-words : (k : Kind) (v : Returned k) (more : List ℕ) → drop (width (arg k)) (argWords k v ++ more) ≡ more
+pub drop-words : (k : Kind) (v : Pooled k) (more : List ℕ) → drop (width (arg k)) (argWords k v ++ more) ≡ more
 drop-words k v more = rw (sym (length-word k v)) (drop-append-seam (argWords k v) more)
 
-pub args-words : (fs : List Field) (vs : Args Returned fs) (more : List ℕ) → FlagsFit fs vs → argsFrom fs (argsWords fs vs ++ more) ≡ vs
+pub args-words : (fs : List Field) (vs : Args Pooled fs) (more : List ℕ) → FlagsFit fs vs → argsFrom fs (argsWords fs vs ++ more) ≡ vs
 unfolding argsWords argsFrom
 args-words [] vs more f = refl
 args-words (fixed xs ∷ fs) vs more f = args-words fs vs more f

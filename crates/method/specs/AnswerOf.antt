@@ -4,7 +4,7 @@ use mathlib.Core.Bool.{Bool, true, false}
 use mathlib.Core.Option.{Option, none, some}
 use mathlib.Core.List.{List, [], _∷_}
 use Rattle.types.specs.declared.Span.{Span}
-use Rattle.method.specs.Fields.{Kind, Field, fixed, arg, Returned, Args}
+use Rattle.method.specs.Fields.{Kind, Field, fixed, arg, Pooled, Args}
 use Rattle.method.specs.Commands as table
 use Rattle.method.specs.Commands.{commands, fieldsOf, call}
 use Rattle.method.specs.Properties.{properties, select, Header, header}
@@ -21,7 +21,7 @@ use Rattle.method.specs.declared.OptTable.the-variants as headers
 use Rattle.method.specs.declared.ContentProperties.{ContentProperties}
 use Rattle.method.specs.declared.ContentHeader.{ContentHeader}
 
-unfoldable pub commandOf : Command → table.Command Returned
+unfoldable pub commandOf : Command → table.Command Pooled
 unfolding fieldsOf commands
 commandOf (ConnectionStartOk user password) = call 10 11 (record { user = user; password = password }, tt)
 commandOf (ConnectionTuneOk channel-max frame-max heartbeat) = call 10 31 (channel-max, (frame-max, (heartbeat, tt)))
@@ -52,7 +52,7 @@ commandOf TxSelect = call 90 10 tt
 -- Properties, each there or not
 
 abbrev pub Optional : Kind → Type 0
-Optional k = Option (Returned k)
+Optional k = Option (Pooled k)
 
 abbrev pub isThere : {A : Type 0} → Option A → Bool
 isThere none = false
@@ -63,13 +63,13 @@ present [] vs = []
 present (fixed xs ∷ fs) vs = true ∷ present fs vs
 present (arg k ∷ fs) vs = isThere (vs .0) ∷ present fs (vs .1)
 
-abbrev pub withFirst : (k : Kind) (fs : List Field) (ps : List Bool) (v : Option (Returned k)) → Args Returned (select ps fs) → Args Returned (select (isThere v ∷ ps) (arg k ∷ fs))
+abbrev pub withFirst : (k : Kind) (fs : List Field) (ps : List Bool) (v : Option (Pooled k)) → Args Pooled (select ps fs) → Args Pooled (select (isThere v ∷ ps) (arg k ∷ fs))
 unfolding select
 withFirst k fs ps none vs = vs
 withFirst k fs ps (some v) vs = (v, vs)
 
 -- those that are there
-unfoldable pub chosen : (fs : List Field) (vs : Args Optional fs) → Args Returned (select (present fs vs) fs)
+unfoldable pub chosen : (fs : List Field) (vs : Args Optional fs) → Args Pooled (select (present fs vs) fs)
 unfolding select
 chosen [] vs = tt
 chosen (fixed xs ∷ fs) vs = chosen fs vs
@@ -125,6 +125,6 @@ propertiesOf p = (
   ),
 )
 
-unfoldable pub headerOf : ContentHeader → Header Returned
+unfoldable pub headerOf : ContentHeader → Header Pooled
 headerOf h =
     header (h .class) (h .«body_size») (present properties (propertiesOf (h .properties))) (chosen properties (propertiesOf (h .properties)))

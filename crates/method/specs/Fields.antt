@@ -1,7 +1,8 @@
 -- What a command or a content header is made of: a list of fields, fixed octets or arguments (document 01, "method.rs").
-use mathlib.Core.Bool.{Bool, true}
+use mathlib.Core.Bool.{Bool}
 use mathlib.Core.List.{List, [], _∷_}
 use Prim.Native.Nat.{ℕ}
+use Rattle.types.specs.Strings.{octetsOf}
 use Rattle.types.specs.declared.Span.{Span}
 use Rattle.tables.specs.Forest.{TableMeaning, LocatedTable}
 
@@ -32,19 +33,6 @@ Meaning (bits places) = List Bool
 Meaning login = Login (List ℕ)
 Meaning table = TableMeaning
 
--- An argument as a sender hands it to a writer: a table is a tape, in words, over a pool
-
-pub record SentTable : Type 0 where
-  pub tape : List ℕ
-  pub pool : List ℕ
-
-abbrev pub Sent : Kind → Type 0
-Sent (number k) = ℕ
-Sent shortStr = List ℕ
-Sent (bits places) = List Bool
-Sent login = Login (List ℕ)
-Sent table = SentTable
-
 -- as it is located in octets, a table by its first octet and its entries
 
 pub record TableIn : Type 0 where
@@ -58,14 +46,23 @@ Located (bits places) = List Bool
 Located login = Login Span
 Located table = TableIn
 
--- and as a reader returns it: of a table, which is on the tape, the number of its records
+-- and over a pool, as a reader returns it and a writer takes it: a string as a span; of a table, which is on the tape, the number of its records
 
-abbrev pub Returned : Kind → Type 0
-Returned (number k) = ℕ
-Returned shortStr = Span
-Returned (bits places) = List Bool
-Returned login = Login Span
-Returned table = ℕ
+abbrev pub Pooled : Kind → Type 0
+Pooled (number k) = ℕ
+Pooled shortStr = Span
+Pooled (bits places) = List Bool
+Pooled login = Login Span
+Pooled table = ℕ
+
+-- What a pooled argument means, where its table means t
+
+abbrev pub meaning : List ℕ → TableMeaning → (k : Kind) → Pooled k → Meaning k
+meaning pool t (number k) n = n
+meaning pool t shortStr v = octetsOf pool v
+meaning pool t (bits places) flags = flags
+meaning pool t login x = record { user = octetsOf pool (x .user); password = octetsOf pool (x .password) }
+meaning pool t table n = t
 
 -- one for each argument of some fields
 abbrev pub Args : (Kind → Type 0) → List Field → Type 0

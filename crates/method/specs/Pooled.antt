@@ -1,7 +1,8 @@
 -- What a reader returns is what a writer takes: the same command or header, its strings as spans of a lent pool and its table as the lent tape.
--- A span outside the pool has fewer octets than it needs: Truncated, judged before the string's length.
+-- The writers refuse arguments in wire order, each string for its span (one outside the pool has fewer octets than it needs: Truncated), its length,
+-- its UTF-8; then 9, then 11 (document 01, "Results and refusals").
 use mathlib.Core.Option.{Option, none}
-use mathlib.Core.List.{List, [], _∷_}
+use mathlib.Core.List.{List}
 use Prim.Native.Nat.{ℕ}
 use Rattle.utf8.specs.Utf8.{utf8}
 use Rattle.types.specs.Answer.{Refusal, truncated, notUtf8}
@@ -11,29 +12,28 @@ use Rattle.types.specs.Memory.{Outcome}
 use Rattle.writers.specs.Writers.{writeAt}
 use Rattle.types.specs.declared.Span.{Span}
 use Rattle.tables.specs.Letters.{Letters}
-use Rattle.tables.specs.Writing.{inPool, judgeTable}
-use Rattle.method.specs.Fields.{Kind, number, shortStr, bits, login, table, Field, fixed, arg, Meaning, Sent, Returned, Args, mapArgs, foldArgs}
+use Rattle.tables.specs.Writing.{inPool, judgeTable, tapeMeaning}
+use Rattle.method.specs.Fields.{Kind, number, shortStr, bits, login, table, Field, Meaning, Pooled, meaning, Args, mapArgs, foldArgs}
 use Rattle.method.specs.Commands.{fieldsOf, Command, call}
 use Rattle.method.specs.Properties.{properties, select, Header, header}
-use Rattle.method.specs.Writing.{sentArgsMeaning, sentCommandMeaning, sentHeaderMeaning, commandOctets, headerOctets, judgeLengths}
+use Rattle.method.specs.Writing.{commandOctets, headerOctets, judgeLengths}
 
 module _ (letters : Letters) (pool tape : List ℕ) where
-  -- the argument that it stands for: a writer takes the whole tape given
-  abbrev pub sentArg : (k : Kind) → Returned k → Sent k
-  sentArg (number k) n = n
-  sentArg shortStr v = octetsOf pool v
-  sentArg (bits places) flags = flags
-  sentArg login x = record { user = octetsOf pool (x .user); password = octetsOf pool (x .password) }
-  sentArg table n = record { tape = tape; pool = pool }
+  -- What it means: a writer takes the whole tape given
 
-  unfoldable pub sentArgs : (fs : List Field) → Args Returned fs → Args Sent fs
-  sentArgs fs vs = mapArgs sentArg fs vs
+  abbrev pub pooledMeaning : (k : Kind) → Pooled k → Meaning k
+  pooledMeaning = meaning pool (tapeMeaning letters pool tape)
 
-  abbrev pub sentCommand : Command Returned → Command Sent
-  sentCommand (call c m vs) = call c m (sentArgs (fieldsOf c m) vs)
+  unfoldable pub pooledMeanings : (fs : List Field) → Args Pooled fs → Args Meaning fs
+  pooledMeanings fs vs = mapArgs pooledMeaning fs vs
 
-  abbrev pub sentHeader : Header Returned → Header Sent
-  sentHeader (header c n present vs) = header c n present (sentArgs (select present properties) vs)
+  abbrev pub pooledCommandMeaning : Command Pooled → Command Meaning
+  pooledCommandMeaning (call c m vs) = call c m (pooledMeanings (fieldsOf c m) vs)
+
+  abbrev pub pooledHeaderMeaning : Header Pooled → Header Meaning
+  pooledHeaderMeaning (header c n present vs) = header c n present (pooledMeanings (select present properties) vs)
+
+  -- What is refused
 
   -- first the span, then what stands in it; each string wholly before the next
   abbrev pub judgeSpan : Span → Option Refusal → Option Refusal
@@ -42,36 +42,30 @@ module _ (letters : Letters) (pool tape : List ℕ) where
   abbrev pub judgeText : Span → Option Refusal → Option Refusal
   judgeText v more = judgeSpan v (test (utf8 (octetsOf pool v)) notUtf8 more)
 
-  abbrev pub judgeReturned : (k : Kind) → Returned k → Option Refusal
-  judgeReturned (number k) n = none
-  judgeReturned shortStr v = judgeSpan v (judgeShortStr (octetsOf pool v))
-  judgeReturned (bits places) flags = none
-  judgeReturned login x = judgeText (x .user) (judgeText (x .password) none)
-  judgeReturned table n = judgeTable letters pool tape
+  abbrev pub judgeArg : (k : Kind) → Pooled k → Option Refusal
+  judgeArg (number k) n = none
+  judgeArg shortStr v = judgeSpan v (judgeShortStr (octetsOf pool v))
+  judgeArg (bits places) flags = none
+  judgeArg login x = judgeText (x .user) (judgeText (x .password) none)
+  judgeArg table n = judgeTable letters pool tape
 
   -- in wire order
-  unfoldable pub judgePooled : (fs : List Field) → Args Returned fs → Option Refusal
-  judgePooled fs vs = foldArgs orElse none judgeReturned fs vs
+  unfoldable pub judgeArgs : (fs : List Field) → Args Pooled fs → Option Refusal
+  judgeArgs fs vs = foldArgs orElse none judgeArg fs vs
 
-  abbrev pub refusalPooled : (fs : List Field) → Args Returned fs → Option Refusal
-  refusalPooled fs vs = orElse (judgePooled fs vs) (judgeLengths letters fs (sentArgsMeaning letters fs (sentArgs fs vs)))
+  abbrev pub refusalOf : (fs : List Field) → Args Pooled fs → Option Refusal
+  refusalOf fs vs = orElse (judgeArgs fs vs) (judgeLengths letters fs (pooledMeanings fs vs))
 
-  -- a command and a header: what their writers refuse, given space enough, and their octets
+  -- A command and a header: what their writers refuse, given space enough, and what they write
 
-  abbrev pub commandRefusalPooled : Command Returned → Option Refusal
-  commandRefusalPooled (call c m vs) = refusalPooled (fieldsOf c m) vs
+  abbrev pub commandRefusal : Command Pooled → Option Refusal
+  commandRefusal (call c m vs) = refusalOf (fieldsOf c m) vs
 
-  abbrev pub headerRefusalPooled : Header Returned → Option Refusal
-  headerRefusalPooled (header c n present vs) = refusalPooled (select present properties) vs
+  abbrev pub headerRefusal : Header Pooled → Option Refusal
+  headerRefusal (header c n present vs) = refusalOf (select present properties) vs
 
-  abbrev pub pooledCommandMeaning : Command Returned → Command Meaning
-  pooledCommandMeaning x = sentCommandMeaning letters (sentCommand x)
+  unfoldable pub writeCommand : Command Pooled → ℕ → List ℕ → Outcome Unit
+  writeCommand x at out = writeAt (commandRefusal x) (commandOctets letters (pooledCommandMeaning x)) at out
 
-  abbrev pub pooledHeaderMeaning : Header Returned → Header Meaning
-  pooledHeaderMeaning x = sentHeaderMeaning letters (sentHeader x)
-
-  unfoldable pub writeCommandPooled : Command Returned → ℕ → List ℕ → Outcome Unit
-  writeCommandPooled x at out = writeAt (commandRefusalPooled x) (commandOctets letters (pooledCommandMeaning x)) at out
-
-  unfoldable pub writeHeaderPooled : Header Returned → ℕ → List ℕ → Outcome Unit
-  writeHeaderPooled x at out = writeAt (headerRefusalPooled x) (headerOctets letters (pooledHeaderMeaning x)) at out
+  unfoldable pub writeHeader : Header Pooled → ℕ → List ℕ → Outcome Unit
+  writeHeader x at out = writeAt (headerRefusal x) (headerOctets letters (pooledHeaderMeaning x)) at out

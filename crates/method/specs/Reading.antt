@@ -15,7 +15,7 @@ use Rattle.tables.specs.Forest.{size, meaningOf}
 use Rattle.tables.specs.Reading.{tableAt}
 use Rattle.types.specs.Memory.{Outcome}
 use Rattle.tables.specs.Tape.{Record, flatten, forestOf, WithTape, WithCount, roomOf, fillTape}
-use Rattle.method.specs.Fields.{Kind, number, shortStr, bits, login, table, Field, fixed, arg, Login, Meaning, Located, Returned, Args, mapArgs, foldArgs}
+use Rattle.method.specs.Fields.{Kind, number, shortStr, bits, login, table, Field, fixed, arg, Login, Meaning, Located, Pooled, meaning, Args, mapArgs, foldArgs}
 use Rattle.method.specs.Commands.{known, fieldsOf, Command, call}
 use Rattle.method.specs.Properties.{properties, select, flagsOf, Header, header}
 
@@ -126,56 +126,52 @@ headerAt letters s p room = andThen (uintAt 2 s p) (λ c q. andThen (uintAt 2 s 
 
 -- What is returned of what is located, with its tape records
 
-abbrev pub returnedArg : (k : Kind) → Located k → Returned k
-returnedArg (number k) n = n
-returnedArg shortStr x = x
-returnedArg (bits places) flags = flags
-returnedArg login x = x
-returnedArg table t = size (t .entries)
+abbrev pub pooledArg : (k : Kind) → Located k → Pooled k
+pooledArg (number k) n = n
+pooledArg shortStr x = x
+pooledArg (bits places) flags = flags
+pooledArg login x = x
+pooledArg table t = size (t .entries)
 
-unfoldable pub returnedArgs : (fs : List Field) → Args Located fs → Args Returned fs
-returnedArgs fs vs = mapArgs returnedArg fs vs
+unfoldable pub pooledArgs : (fs : List Field) → Args Located fs → Args Pooled fs
+pooledArgs fs vs = mapArgs pooledArg fs vs
 
-abbrev pub commandWithTape : Command Located → WithTape (Command Returned)
-commandWithTape (call c m vs) = record { value = call c m (returnedArgs (fieldsOf c m) vs); tape = tapeOf (fieldsOf c m) vs }
+abbrev pub commandWithTape : Command Located → WithTape (Command Pooled)
+commandWithTape (call c m vs) = record { value = call c m (pooledArgs (fieldsOf c m) vs); tape = tapeOf (fieldsOf c m) vs }
 
-abbrev pub headerWithTape : Header Located → WithTape (Header Returned)
+abbrev pub headerWithTape : Header Located → WithTape (Header Pooled)
 headerWithTape (header c n present vs) =
-    record { value = header c n present (returnedArgs (select present properties) vs); tape = tapeOf (select present properties) vs }
+    record { value = header c n present (pooledArgs (select present properties) vs); tape = tapeOf (select present properties) vs }
 
 -- Readers onto the records behind the used ones, with all of the tape at exit
 
-unfoldable pub readCommand : Letters → List ℕ → ℕ → ℕ → List ℕ → Outcome (WithCount (Command Returned))
+unfoldable pub readCommand : Letters → List ℕ → ℕ → ℕ → List ℕ → Outcome (WithCount (Command Pooled))
 readCommand letters s at used tape =
     fillTape used tape (andThen (commandAt letters s at (roomOf used tape)) (λ x q. given (commandWithTape x) q))
 
-unfoldable pub readHeader : Letters → List ℕ → ℕ → ℕ → List ℕ → Outcome (WithCount (Header Returned))
+unfoldable pub readHeader : Letters → List ℕ → ℕ → ℕ → List ℕ → Outcome (WithCount (Header Pooled))
 readHeader letters s at used tape =
     fillTape used tape (andThen (headerAt letters s at (roomOf used tape)) (λ x q. given (headerWithTape x) q))
 
--- The meaning of what is returned, over the octets and its tape records
+-- The meaning of what is returned, over the octets and its tape records, the first n of which are a table's
 
-abbrev pub argMeaning : Letters → (k : Kind) → List ℕ → Returned k → List Record → Meaning k
-argMeaning letters (number k) s n rs = n
-argMeaning letters shortStr s x rs = octetsOf s x
-argMeaning letters (bits places) s flags rs = flags
-argMeaning letters login s x rs = record { user = octetsOf s (x .user); password = octetsOf s (x .password) }
-argMeaning letters table s n rs = meaningOf letters s (forestOf (take n rs))
-
-abbrev pub used : (k : Kind) → Returned k → ℕ
+abbrev pub used : (k : Kind) → Pooled k → ℕ
 used (number k) n = 0
 used shortStr x = 0
 used (bits places) flags = 0
 used login x = 0
 used table n = n
 
-unfoldable pub argsMeaning : Letters → (fs : List Field) → List ℕ → Args Returned fs → List Record → Args Meaning fs
+abbrev pub argMeaning : Letters → (k : Kind) → List ℕ → Pooled k → List Record → Meaning k
+argMeaning letters k s v rs = meaning s (meaningOf letters s (forestOf (take (used k v) rs))) k v
+
+unfoldable pub argsMeaning : Letters → (fs : List Field) → List ℕ → Args Pooled fs → List Record → Args Meaning fs
 argsMeaning letters [] s vs rs = tt
 argsMeaning letters (fixed xs ∷ fs) s vs rs = argsMeaning letters fs s vs rs
 argsMeaning letters (arg k ∷ fs) s vs rs = (argMeaning letters k s (vs .0) rs, argsMeaning letters fs s (vs .1) (drop (used k (vs .0)) rs))
 
-abbrev pub commandMeaning : Letters → List ℕ → Command Returned → List Record → Command Meaning
+abbrev pub commandMeaning : Letters → List ℕ → Command Pooled → List Record → Command Meaning
 commandMeaning letters s (call c m vs) rs = call c m (argsMeaning letters (fieldsOf c m) s vs rs)
 
-abbrev pub headerMeaning : Letters → List ℕ → Header Returned → List Record → Header Meaning
+abbrev pub headerMeaning : Letters → List ℕ → Header Pooled → List Record → Header Meaning
 headerMeaning letters s (header c n present vs) rs = header c n present (argsMeaning letters (select present properties) s vs rs)

@@ -1,5 +1,4 @@
--- What is written of fields, and what their writers refuse: arguments in wire order, each short string for length, then UTF-8; then 9, then 11
--- (document 01, "Results and refusals" and "method.rs").
+-- What is written of fields (document 01, "method.rs").
 use mathlib.Core.Path.{_≡_}
 use mathlib.Core.Bool.{Bool, true, false}
 use mathlib.Core.Option.{Option, none}
@@ -7,19 +6,16 @@ use mathlib.Core.List.{List, [], _∷_, _++_}
 use Prim.Native.Nat.{ℕ, suc, _+_, _*_, _^_, _<_}
 use lib.ListN.{length}
 use lib.Dec.{eqb}
-use Rattle.utf8.specs.Utf8.{utf8}
-use Rattle.types.specs.Answer.{Refusal, notUtf8}
+use Rattle.types.specs.Answer.{Refusal}
 use Rattle.types.specs.Octets.{octets}
 use Rattle.types.specs.Strings as string
-use Rattle.types.specs.Strings.{longStr, judgeShortStr, judgeLength}
+use Rattle.types.specs.Strings.{longStr, judgeLength}
 use Rattle.bits.specs.Flags.{packBits}
-use Rattle.types.specs.Judgement.{test, orElse}
-use Rattle.types.specs.Memory.{Outcome}
-use Rattle.writers.specs.Writers.{writeAt}
+use Rattle.types.specs.Judgement.{orElse}
 use Rattle.tables.specs.Letters.{Letters}
 use Rattle.tables.specs.Forest.{size}
-use Rattle.tables.specs.Writing.{body, tableOctets, judgeTable, tapeMeaning}
-use Rattle.method.specs.Fields.{Kind, number, shortStr, bits, login, table, Field, fixed, arg, Login, Meaning, Sent, Args, mapArgs, foldArgs, AllArgs}
+use Rattle.tables.specs.Writing.{body, tableOctets}
+use Rattle.method.specs.Fields.{Kind, number, shortStr, bits, login, table, Field, fixed, arg, Login, Meaning, Pooled, Args, foldArgs, AllArgs}
 use Rattle.method.specs.Commands.{known, fieldsOf, Command, call}
 use Rattle.method.specs.Properties.{properties, select, flagsNumber, Header, header}
 
@@ -37,24 +33,6 @@ howMany (true ∷ places) = suc (howMany places)
 
 abbrev pub loginText : Login (List ℕ) → List ℕ
 loginText x = 0 ∷ (x .user ++ (0 ∷ x .password))
-
--- The meaning of what a sender hands to a writer
-
-abbrev pub sentArgMeaning : Letters → (k : Kind) → Sent k → Meaning k
-sentArgMeaning letters (number k) n = n
-sentArgMeaning letters shortStr xs = xs
-sentArgMeaning letters (bits places) flags = flags
-sentArgMeaning letters login x = x
-sentArgMeaning letters table t = tapeMeaning letters (t .pool) (t .tape)
-
-unfoldable pub sentArgsMeaning : Letters → (fs : List Field) → Args Sent fs → Args Meaning fs
-sentArgsMeaning letters fs vs = mapArgs (sentArgMeaning letters) fs vs
-
-abbrev pub sentCommandMeaning : Letters → Command Sent → Command Meaning
-sentCommandMeaning letters (call c m vs) = call c m (sentArgsMeaning letters (fieldsOf c m) vs)
-
-abbrev pub sentHeaderMeaning : Letters → Header Sent → Header Meaning
-sentHeaderMeaning letters (header c n present vs) = header c n present (sentArgsMeaning letters (select present properties) vs)
 
 -- How many values, at any depth, are in its tables
 
@@ -96,19 +74,8 @@ unfoldable pub headerOctets : Letters → Header Meaning → List ℕ
 headerOctets letters (header c n present vs) =
     octets 2 c ++ (octets 2 0 ++ (octets 8 n ++ (octets 2 (8 * flagsNumber present) ++ fieldOctets letters (select present properties) vs)))
 
--- What is refused
+-- What is refused of the length fields of four octets
 
-abbrev pub judgeArg : Letters → (k : Kind) → Sent k → Option Refusal
-judgeArg letters (number k) n = none
-judgeArg letters shortStr xs = judgeShortStr xs
-judgeArg letters (bits places) flags = none
-judgeArg letters login x = test (utf8 (x .user)) notUtf8 (test (utf8 (x .password)) notUtf8 none)
-judgeArg letters table t = judgeTable letters (t .pool) (t .tape)
-
-unfoldable pub judgeArgs : Letters → (fs : List Field) → Args Sent fs → Option Refusal
-judgeArgs letters fs vs = foldArgs orElse none (judgeArg letters) fs vs
-
--- the length fields of four octets
 abbrev pub judgeArgLength : Letters → (k : Kind) → Meaning k → Option Refusal
 judgeArgLength letters (number k) n = none
 judgeArgLength letters shortStr xs = none
@@ -119,36 +86,22 @@ judgeArgLength letters table t = judgeLength (length (body letters true t))
 unfoldable pub judgeLengths : Letters → (fs : List Field) → Args Meaning fs → Option Refusal
 judgeLengths letters fs vs = foldArgs orElse none (judgeArgLength letters) fs vs
 
-abbrev pub refusalOf : Letters → (fs : List Field) → Args Sent fs → Option Refusal
-refusalOf letters fs vs = orElse (judgeArgs letters fs vs) (judgeLengths letters fs (sentArgsMeaning letters fs vs))
-
-unfoldable pub commandRefusal : Letters → Command Sent → Option Refusal
-commandRefusal letters (call c m vs) = refusalOf letters (fieldsOf c m) vs
-
-unfoldable pub headerRefusal : Letters → Header Sent → Option Refusal
-headerRefusal letters (header c n present vs) = refusalOf letters (select present properties) vs
-
--- The header writer
-
-unfoldable pub writeHeader : Letters → Header Sent → ℕ → List ℕ → Outcome Unit
-writeHeader letters x at out = writeAt (headerRefusal letters x) (headerOctets letters (sentHeaderMeaning letters x)) at out
-
 -- The ranges that the writers' parameter types have
 
-abbrev pub Typed : (k : Kind) → Sent k → Type 0
+abbrev pub Typed : (k : Kind) → Pooled k → Type 0
 Typed (number k) n = n < 256 ^ k
-Typed shortStr xs = Unit {0}
+Typed shortStr v = Unit {0}
 Typed (bits places) flags = length flags ≡ howMany places
 Typed login x = Unit {0}
-Typed table t = Unit {0}
+Typed table n = Unit {0}
 
-abbrev pub TypedAll : (fs : List Field) → Args Sent fs → Type 0
+abbrev pub TypedAll : (fs : List Field) → Args Pooled fs → Type 0
 TypedAll fs vs = AllArgs Typed fs vs
 
-unfoldable pub TypedCommand : Command Sent → Type 0
+unfoldable pub TypedCommand : Command Pooled → Type 0
 TypedCommand (call c m vs) = (c < 256 ^ 2) × (m < 256 ^ 2) × (known c m ≡ true) × TypedAll (fieldsOf c m) vs
 
-unfoldable pub TypedHeader : Header Sent → Type 0
+unfoldable pub TypedHeader : Header Pooled → Type 0
 TypedHeader (header c n present vs) = (c < 256 ^ 2) × (n < 256 ^ 8) × (length present ≡ 13) × TypedAll (select present properties) vs
 
 -- No NUL in a login's user
@@ -157,15 +110,15 @@ abbrev pub NoNul : List ℕ → Type 0
 NoNul [] = Unit {0}
 NoNul (x ∷ xs) = (eqb x 0 ≡ false) × NoNul xs
 
-abbrev pub NoNulArg : (k : Kind) → Sent k → Type 0
+abbrev pub NoNulArg : (k : Kind) → Meaning k → Type 0
 NoNulArg (number k) n = Unit {0}
 NoNulArg shortStr xs = Unit {0}
 NoNulArg (bits places) flags = Unit {0}
 NoNulArg login x = NoNul (x .user)
 NoNulArg table t = Unit {0}
 
-abbrev pub NoNulArgs : (fs : List Field) → Args Sent fs → Type 0
+abbrev pub NoNulArgs : (fs : List Field) → Args Meaning fs → Type 0
 NoNulArgs fs vs = AllArgs NoNulArg fs vs
 
-unfoldable pub NoNulCommand : Command Sent → Type 0
+unfoldable pub NoNulCommand : Command Meaning → Type 0
 NoNulCommand (call c m vs) = NoNulArgs (fieldsOf c m) vs

@@ -15,7 +15,7 @@ use Rattle.tables.specs.Letters.{Letters}
 use Rattle.tables.specs.Tape.{roomOf}
 use Rattle.method.specs.Commands.{known, fieldsOf, call}
 use Rattle.method.specs.Properties.{select, flagsOf}
-use Rattle.method.specs.Reading.{commandAt, readCommand, returnedArgs}
+use Rattle.method.specs.Reading.{commandAt, readCommand, pooledArgs}
 use Rattle.method.specs.Words.{argsWords}
 use Rattle.method.specs.Layout.{fieldOf, layoutFields, zeros}
 use Rattle.method.specs.declared.layout.Layout.{Layout}
@@ -68,8 +68,8 @@ module _
   arguments-read place next memory lent same h none filled =
       let f = read place next same in
       let fs = fieldsOf c m in
-      let value = call c m (returnedArgs fs (f .args)) in
-      let ws = argsWords fs (returnedArgs fs (f .args)) in
+      let value = call c m (pooledArgs fs (f .args)) in
+      let ws = argsWords fs (pooledArgs fs (f .args)) in
       let made : callIn c m after ≡ callOf value = ap (callIn c m) (f .words ∙ splice-head ws before ∙ ap (λ (l : List ℕ). ws ++ drop (length ws) l) none) in
       ap (λ (x : Call). wordsOutcome (given (record { value = x; count = place .records }) next) (x .words) memory) made
       ∙ rw (f .read, leb-yes (length s) next h)

@@ -18,9 +18,9 @@ use Rattle.types.proofs.Splice.{splice-nil, splice-after, splice-sets}
 use Rattle.tables.specs.Letters.{errata}
 use Rattle.tables.specs.Reading.{tableAt}
 use Rattle.tables.proofs.TapeLaws.{length-flatten}
-use Rattle.method.specs.Fields.{Kind, number, shortStr, bits, login, table, Field, fixed, arg, Located, Returned, Args}
+use Rattle.method.specs.Fields.{Kind, number, shortStr, bits, login, table, Field, fixed, arg, Located, Pooled, Args}
 use Rattle.method.specs.Properties.{select, flagsOf}
-use Rattle.method.specs.Reading.{argAt, argTape, fixedAt, fieldsAt, returnedArg, returnedArgs, used}
+use Rattle.method.specs.Reading.{argAt, argTape, fixedAt, fieldsAt, pooledArg, pooledArgs, used}
 use Rattle.method.specs.Words.{width, widths, argWords, argsWords}
 use Rattle.method.specs.Layout.{fieldOf}
 use Rattle.method.proofs.FieldCodes.{Left, Present, all-left, none-left, present-left, absent-left}
@@ -36,7 +36,7 @@ use Rattle.method_reader.specs.AnswerOf.{answerOfField, answerOfFields}
 
 -- One field stored
 
-own-width : (k : Kind) (v : Returned k) → length (argWords k v) ≡ width (arg k)
+own-width : (k : Kind) (v : Pooled k) → length (argWords k v) ≡ width (arg k)
 unfolding argsWords
 own-width k v = let l = length-words (arg k ∷ []) (v, tt) in omega (arith, rw (append-nil (argWords k v)) at l)
 
@@ -45,12 +45,12 @@ module _ (k : Kind) (s : List ℕ) (p room j : ℕ) (before after : List ℕ) wh
   unfolding fieldAt
   stored-refused e a = rw a
 
-  pub stored-given : (v : Located k) (own q : ℕ) → argAt errata k s p room ≡ given v q → own ≡ used k (returnedArg k v) → j + width (arg k) ≤ length before
-      → after ≡ sets before j (argWords k (returnedArg k v)) → FieldStored (fieldAt errata (arg k) s p room) j before after (field.Value own q)
+  pub stored-given : (v : Located k) (own q : ℕ) → argAt errata k s p room ≡ given v q → own ≡ used k (pooledArg k v) → j + width (arg k) ≤ length before
+      → after ≡ sets before j (argWords k (pooledArg k v)) → FieldStored (fieldAt errata (arg k) s p room) j before after (field.Value own q)
   unfolding fieldAt
   stored-given v own q a o l m =
-      let w = own-width k (returnedArg k v) in
-      rw a (ap (λ (n : ℕ). given n q) o, m ∙ splice-sets (argWords k (returnedArg k v)) before j (omega (arith, w)))
+      let w = own-width k (pooledArg k v) in
+      rw a (ap (λ (n : ℕ). given n q) o, m ∙ splice-sets (argWords k (pooledArg k v)) before j (omega (arith, w)))
 
 pub stored-fixed : (xs s : List ℕ) (p room j : ℕ) (words : List ℕ) (r : ReadField)
     → answerOfField r ≡ andThen (fixedAt xs s p) (λ x q. given 0 q) → FieldStored (fieldAt errata (fixed xs) s p room) j words words r
@@ -84,7 +84,7 @@ roomless table s p room h = absurd h
 abbrev placeAfter : ℕ → ℕ → TablePlace → TablePlace
 placeAfter own p last = cond (eqb own 0) last (record { records = own; start = p })
 
-own-tape : (k : Kind) (v : Located k) → used k (returnedArg k v) ≡ length (argTape k v)
+own-tape : (k : Kind) (v : Located k) → used k (pooledArg k v) ≡ length (argTape k v)
 own-tape (number k) v = refl
 own-tape shortStr v = refl
 own-tape (bits places) v = refl
@@ -92,7 +92,7 @@ own-tape login v = refl
 own-tape table v = sym (length-flatten (v .entries))
 
 own-table : (k : Kind) (s : List ℕ) (p room : ℕ) (v : Located k) (q : ℕ) (last : TablePlace) → argAt errata k s p room ≡ given v q
-    → tableAfter k v last ≡ placeAfter (used k (returnedArg k v)) p last
+    → tableAfter k v last ≡ placeAfter (used k (pooledArg k v)) p last
 unfolding argAt
 own-table (number k) s p room v q last e = refl
 own-table shortStr s p room v q last e = refl
@@ -142,10 +142,10 @@ module _ (s : List ℕ) (p room : ℕ) where
   field-fits (arg k) x q h =
       then-go (argAt errata k s p room) _ x q h
       (λ v m e1 h1.
-      let y : FieldRead = record { words = argWords k (returnedArg k v); records = used k (returnedArg k v) } in
+      let y : FieldRead = record { words = argWords k (pooledArg k v); records = used k (pooledArg k v) } in
       let w = given-value y x m q h1 in
       let a = arg-within errata k s p room v m e1 in
-      rw (← w) (omega (arith, own-tape k v, a .fits), own-width k (returnedArg k v)))
+      rw (← w) (omega (arith, own-tape k v, a .fits), own-width k (pooledArg k v)))
 
 module _ (fs : List Field) (s : List ℕ) (p room : ℕ) (last : TablePlace) where
   scan-refused : (f : Field) (e : Refusal) → fieldAt errata f s p room ≡ refused e → scanAt errata (f ∷ fs) s p room last ≡ refused e
@@ -155,7 +155,7 @@ module _ (fs : List Field) (s : List ℕ) (p room : ℕ) (last : TablePlace) whe
 
   scan-given : (f : Field) (x : FieldRead) (q : ℕ) → fieldAt errata f s p room ≡ given x q
       → scanAt errata (f ∷ fs) s p room last ≡ behind (x .words) (scanAt errata fs s q (room - x .records) (placeAfter (x .records) p last))
-  unfolding fieldAt scanAt fieldsAt argsWords returnedArgs lastTable
+  unfolding fieldAt scanAt fieldsAt argsWords pooledArgs lastTable
   scan-given (fixed xs) x q h =
       then-go (fixedAt xs s p) _ x q h
       (λ u m e1 h1.
@@ -164,22 +164,22 @@ module _ (fs : List Field) (s : List ℕ) (p room : ℕ) (last : TablePlace) whe
       rw (e1, ← w, ← n, sub-zero room) (none (fieldsAt errata fs s m room)))
     where
       none : (b : Answer (Args Located fs))
-          → andThen b (λ vs q. given (record { words = argsWords fs (returnedArgs fs vs); table = lastTable fs vs last }) q)
-          ≡ behind [] (andThen b (λ vs q. given (record { words = argsWords fs (returnedArgs fs vs); table = lastTable fs vs last }) q))
+          → andThen b (λ vs q. given (record { words = argsWords fs (pooledArgs fs vs); table = lastTable fs vs last }) q)
+          ≡ behind [] (andThen b (λ vs q. given (record { words = argsWords fs (pooledArgs fs vs); table = lastTable fs vs last }) q))
       none (given vs n) = refl
       none (refused e) = refl
   scan-given (arg k) x q h =
       then-go (argAt errata k s p room) _ x q h
       (λ v m e1 h1.
-      let y : FieldRead = record { words = argWords k (returnedArg k v); records = used k (returnedArg k v) } in
+      let y : FieldRead = record { words = argWords k (pooledArg k v); records = used k (pooledArg k v) } in
       let w = given-value y x m q h1 in
       let n = given-next y x m q h1 in
       rw (e1, ← w, ← n, ← (own-table k s p room v m last e1), own-tape k v) (one v (fieldsAt errata fs s m (room - length (argTape k v)))))
     where
       one : (v : Located k) (b : Answer (Args Located fs))
           → andThen (andThen b (λ vs r. given (v, vs) r))
-          (λ (vs : Args Located (arg k ∷ fs)) q. given (record { words = argsWords (arg k ∷ fs) (returnedArgs (arg k ∷ fs) vs); table = lastTable (arg k ∷ fs) vs last }) q)
-          ≡ behind (argWords k (returnedArg k v)) (andThen b (λ vs q. given (record { words = argsWords fs (returnedArgs fs vs); table = lastTable fs vs (tableAfter k v last) }) q))
+          (λ (vs : Args Located (arg k ∷ fs)) q. given (record { words = argsWords (arg k ∷ fs) (pooledArgs (arg k ∷ fs) vs); table = lastTable (arg k ∷ fs) vs last }) q)
+          ≡ behind (argWords k (pooledArg k v)) (andThen b (λ vs q. given (record { words = argsWords fs (pooledArgs fs vs); table = lastTable fs vs (tableAfter k v last) }) q))
       one v (given vs n) = refl
       one v (refused e) = refl
 

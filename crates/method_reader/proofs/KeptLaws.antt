@@ -15,10 +15,10 @@ use Rattle.types.proofs.Chain.{then-go, need-given, given-value, given-next}
 use Rattle.types.proofs.NumberLaws.{Octets, uintAt-lt}
 use Rattle.tables.specs.Letters.{Letters}
 use Rattle.tables.specs.Tape.{WithTape, WithCount, roomOf, fillTape}
-use Rattle.method.specs.Fields.{Located, Returned}
+use Rattle.method.specs.Fields.{Located, Pooled}
 use Rattle.method.specs.Commands.{known, fieldsOf, Command, call}
 use Rattle.method.specs.Properties.{properties, select, flagsOf, Header, header}
-use Rattle.method.specs.Reading.{commandAt, argumentsAt, headerAt, fieldsAt, readCommand, readHeader, returnedArgs, commandWithTape, headerWithTape}
+use Rattle.method.specs.Reading.{commandAt, argumentsAt, headerAt, fieldsAt, readCommand, readHeader, pooledArgs, commandWithTape, headerWithTape}
 use Rattle.method.specs.Layout.{zeros}
 use Rattle.method.specs.Words.{argsWords}
 use Rattle.method.specs.AnswerOf.{commandOf}
@@ -64,7 +64,7 @@ module _ (letters : Letters) (s : List ℕ) (at room : ℕ) (o : Octets s) where
       then-go (fieldsAt letters fs s r room) _ z q (there .1)
       (λ vs t e3 h3.
       let located : call c m vs ≡ z = given-value _ _ t q (need-given (leb (length s) t) (notWritten t) (given (call c m vs) t) z q h3 .1) in
-      let ws = argsWords fs (returnedArgs fs vs) in
+      let ws = argsWords fs (pooledArgs fs vs) in
       rw (← located, there .0) (ap (λ v. some (call c m v)) (args-read letters fs s r room vs t (drop (length ws) (zeros 8)) o e3)))))
 
   pub header-kept : (z : Header Located) (q : ℕ) → headerAt letters s at room ≡ given z q
@@ -86,7 +86,7 @@ module _ (letters : Letters) (s : List ℕ) (at room : ℕ) (o : Octets s) where
       then-go (fieldsAt letters fs s u room) _ z q h4
       (λ vs v e5 h5.
       let located : header c size ps vs ≡ z = given-value _ _ v q h5 in
-      let ws = argsWords fs (returnedArgs fs vs) in
+      let ws = argsWords fs (pooledArgs fs vs) in
       rw (← located) (
         omega (arith, uintAt-lt 2 s at o (sym e1)),
         rw (flags-number 13 (flags / 8) small, mod-eq-of-lt {m = 8192} small)
@@ -94,7 +94,7 @@ module _ (letters : Letters) (s : List ℕ) (at room : ℕ) (o : Octets s) where
       ))))))
 
 module _ (letters : Letters) (s : List ℕ) (at used : ℕ) (tape : List ℕ) (o : Octets s) where
-  read-command-kept : (x : Command Returned) (k n : ℕ) (memory : List ℕ) → readCommand letters s at used tape ≡ outcome (given (record { value = x; count = k }) n) memory
+  read-command-kept : (x : Command Pooled) (k n : ℕ) (memory : List ℕ) → readCommand letters s at used tape ≡ outcome (given (record { value = x; count = k }) n) memory
       → commandWith (callOf x .class) (callOf x .method) (callOf x .words) ≡ some x
   unfolding readCommand
   read-command-kept x k n memory e =
@@ -102,10 +102,10 @@ module _ (letters : Letters) (s : List ℕ) (at used : ℕ) (tape : List ℕ) (o
       (λ y e1 h1.
       then-go (commandAt letters s at (roomOf used tape)) _ y n e1
       (λ z q e2 h2.
-      let same : commandWithTape z .value ≡ x = ap (λ (v : WithTape (Command Returned)). v .value) (given-value _ _ q n h2) ∙ h1 in
+      let same : commandWithTape z .value ≡ x = ap (λ (v : WithTape (Command Pooled)). v .value) (given-value _ _ q n h2) ∙ h1 in
       rw (← same) (command-kept letters s at (roomOf used tape) o z q e2)))
 
-  read-header-kept : (x : Header Returned) (k n : ℕ) (memory : List ℕ) → readHeader letters s at used tape ≡ outcome (given (record { value = x; count = k }) n) memory
+  read-header-kept : (x : Header Pooled) (k n : ℕ) (memory : List ℕ) → readHeader letters s at used tape ≡ outcome (given (record { value = x; count = k }) n) memory
       → headerWith (headerWords x .class) (headerWords x .«body_size») (headerWords x .present % 8192) (headerWords x .words) ≡ x
   unfolding readHeader
   read-header-kept x k n memory e =
@@ -113,7 +113,7 @@ module _ (letters : Letters) (s : List ℕ) (at used : ℕ) (tape : List ℕ) (o
       (λ y e1 h1.
       then-go (headerAt letters s at (roomOf used tape)) _ y n e1
       (λ z q e2 h2.
-      let same : headerWithTape z .value ≡ x = ap (λ (v : WithTape (Header Returned)). v .value) (given-value _ _ q n h2) ∙ h1 in
+      let same : headerWithTape z .value ≡ x = ap (λ (v : WithTape (Header Pooled)). v .value) (given-value _ _ q n h2) ∙ h1 in
       rw (← same) (header-kept letters s at (roomOf used tape) o z q e2 .1)))
 
   -- the readers, from what their readers in words answer
@@ -139,7 +139,7 @@ module _ (letters : Letters) (s : List ℕ) (at used : ℕ) (tape : List ℕ) (o
       call-unknown e = let there = ap commandOfKnown (sym e) ∙ is-known in let z : _≡_ {A = ℕ} 0 1 = cc in absurd (omega arith)
 
   module _ (r : ReadHeaderWords) (w t before : List ℕ) (h : wordsOutcome (answerOfHeaderWords r w) w t ≡ inWords headerWords (λ x. x .words) before (readHeader letters s at used tape)) where
-    pub header-made : (c n p k : ℕ) (next : Cursor) (y : Header Returned) → r ≡ header-read.Value c n p k next → y ≡ headerWith c n (p % 8192) w
+    pub header-made : (c n p k : ℕ) (next : Cursor) (y : Header Pooled) → r ≡ header-read.Value c n p k next → y ≡ headerWith c n (p % 8192) w
         → outcome (given (record { value = y; count = k }) (next .at)) t ≡ readHeader letters s at used tape
     header-made c n p k next y same made =
         let x = read-too headerWords (λ x. x .words) before (readHeader letters s at used tape) (record { class = c; «body_size» = n; present = p; words = w }) k (next .at) w t (at-case answerOfHeaderWords h same) in

@@ -11,7 +11,7 @@ use Rattle.types.specs.Memory.{outcome}
 use Rattle.tables.specs.Letters.{Letters}
 use Rattle.tables.specs.Tape.{roomOf}
 use Rattle.method.specs.Properties.{properties, select, flagsOf, header}
-use Rattle.method.specs.Reading.{headerAt, returnedArgs, readHeader}
+use Rattle.method.specs.Reading.{headerAt, pooledArgs, readHeader}
 use Rattle.method.specs.Layout.{fieldOf, zeros}
 use Rattle.method.specs.Words.{argsWords}
 use Rattle.method.proofs.MethodLaws.{flags-number}
@@ -46,8 +46,8 @@ module _ (letters : Letters) (s : List ℕ) (used : ℕ) (tape : List ℕ) where
   properties-read c n flags p room layout last r place end memory before small l free h same m =
       let fs = select (flagsOf 13 flags) properties in
       let x = scan-read letters fs s p (roomOf used tape) (zeros 22) last r place end (rw (l, free) at h) same in
-      let value = header c n (flagsOf 13 flags) (returnedArgs fs (x .args)) in
-      let ws = argsWords fs (returnedArgs fs (x .args)) in
+      let value = header c n (flagsOf 13 flags) (pooledArgs fs (x .args)) in
+      let ws = argsWords fs (pooledArgs fs (x .args)) in
       let made : headerIn c n flags last ≡ headerWords value
       = ap (headerIn c n flags) (x .words ∙ splice-head ws (zeros 22)) ∙ ap (λ (k : ℕ). headerIn c n k (padded 22 ws)) (sym (flags-number 13 flags (omega arith))) in
       ap (λ (w : HeaderWords). wordsOutcome (given (record { value = w; count = place .records }) end) (w .words) memory) made

@@ -25,11 +25,11 @@ use Rattle.tables.specs.Forest.{size}
 use Rattle.tables.specs.Reading.{tableAt}
 use Rattle.tables.specs.Tape.{Record, tapeRecords, flatten, roomOf, fillTape, readTable}
 use Rattle.tables.proofs.TapeLaws.{length-flatten}
-use Rattle.method.specs.Fields.{Kind, number, shortStr, bits, login, table, Field, fixed, arg, TableIn, Located, Returned, Args}
+use Rattle.method.specs.Fields.{Kind, number, shortStr, bits, login, table, Field, fixed, arg, TableIn, Located, Pooled, Args}
 use Rattle.method.specs.Commands.{commands, fieldsOf}
 use Rattle.method.specs.Properties.{properties, select}
 use Rattle.method.specs.Writing.{howMany}
-use Rattle.method.specs.Reading.{flagsIn, withFlag, writtenAt, argAt, argTape, tapeOf, fixedAt, fieldsAt, returnedArg, returnedArgs}
+use Rattle.method.specs.Reading.{flagsIn, withFlag, writtenAt, argAt, argTape, tapeOf, fixedAt, fieldsAt, pooledArg, pooledArgs}
 use Rattle.method.specs.Words.{argsWords, argsFrom}
 use Rattle.method.proofs.LayoutLaws.{every-command}
 use Rattle.method.proofs.WordLaws.{FlagFit, FlagsFit, args-words}
@@ -42,14 +42,14 @@ use Rattle.method_reader.specs.declared.fields.ReadFields.the-variants a
 
 -- What was read fits its kind: a number its octets, flags their places
 
-abbrev ReadFit : (k : Kind) → Returned k → Type 0
+abbrev ReadFit : (k : Kind) → Pooled k → Type 0
 ReadFit (number k) n = n < 256 ^ k
 ReadFit shortStr v = Unit {0}
 ReadFit (bits places) flags = length flags ≡ howMany places
 ReadFit login x = Unit {0}
 ReadFit table n = Unit {0}
 
-abbrev ReadFits : (fs : List Field) → Args Returned fs → Type 0
+abbrev ReadFits : (fs : List Field) → Args Pooled fs → Type 0
 ReadFits [] vs = Unit {0}
 ReadFits (fixed xs ∷ fs) vs = ReadFits fs vs
 ReadFits (arg k ∷ fs) vs = ReadFit k (vs .0) × ReadFits fs (vs .1)
@@ -80,33 +80,33 @@ written-value : {A : Type 0} (p : ℕ) (o : Option A) (q : ℕ) (a : A) (n : ℕ
 written-value p none q a n e = let z : _≡_ {A = ℕ} 0 1 = cc in absurd (omega arith)
 written-value p (some x) q a n e = ap some (given-value x a q n e)
 
-flag-fit : (k : Kind) (v : Returned k) → ReadFit k v → FlagFit k v
+flag-fit : (k : Kind) (v : Pooled k) → ReadFit k v → FlagFit k v
 flag-fit (number k) v f = tt
 flag-fit shortStr v f = tt
 flag-fit (bits places) v f = f
 flag-fit login v f = tt
 flag-fit table v f = tt
 
-flags-fit : (fs : List Field) (vs : Args Returned fs) → ReadFits fs vs → FlagsFit fs vs
+flags-fit : (fs : List Field) (vs : Args Pooled fs) → ReadFits fs vs → FlagsFit fs vs
 flags-fit [] vs f = tt
 flags-fit (fixed xs ∷ fs) vs f = flags-fit fs vs f
 flags-fit (arg k ∷ fs) vs f = (flag-fit k (vs .0) (f .0), flags-fit fs (vs .1) (f .1))
 
-arg-kept : (k : Kind) (v : Returned k) → ReadFit k v → cutArg k v ≡ v
+arg-kept : (k : Kind) (v : Pooled k) → ReadFit k v → cutArg k v ≡ v
 arg-kept (number k) v f = mod-eq-of-lt f
 arg-kept shortStr v f = refl
 arg-kept (bits places) v f = refl
 arg-kept login v f = refl
 arg-kept table v f = refl
 
-args-kept : (fs : List Field) (vs : Args Returned fs) → ReadFits fs vs → cutArgs fs vs ≡ vs
+args-kept : (fs : List Field) (vs : Args Pooled fs) → ReadFits fs vs → cutArgs fs vs ≡ vs
 unfolding cutArgs
 args-kept [] vs f = refl
 args-kept (fixed xs ∷ fs) vs f = args-kept fs vs f
 args-kept (arg k ∷ fs) vs f = rw (arg-kept k (vs .0) (f .0), args-kept fs (vs .1) (f .1))
 
 module _ (letters : Letters) where
-  arg-fit : (k : Kind) (s : List ℕ) (p room : ℕ) (v : Located k) (q : ℕ) → Octets s → argAt letters k s p room ≡ given v q → ReadFit k (returnedArg k v)
+  arg-fit : (k : Kind) (s : List ℕ) (p room : ℕ) (v : Located k) (q : ℕ) → Octets s → argAt letters k s p room ≡ given v q → ReadFit k (pooledArg k v)
   unfolding argAt
   arg-fit (number k) s p room v q o e = uintAt-lt k s p o (sym e)
   arg-fit shortStr s p room v q o e = tt
@@ -116,8 +116,8 @@ module _ (letters : Letters) where
   arg-fit table s p room v q o e = tt
 
   args-fit : (fs : List Field) (s : List ℕ) (p room : ℕ) (vs : Args Located fs) (q : ℕ) → Octets s → fieldsAt letters fs s p room ≡ given vs q
-      → ReadFits fs (returnedArgs fs vs)
-  unfolding fieldsAt returnedArgs
+      → ReadFits fs (pooledArgs fs vs)
+  unfolding fieldsAt pooledArgs
   args-fit [] s p room vs q o e = tt
   args-fit (fixed xs ∷ fs) s p room vs q o e = then-go (fixedAt xs s p) _ vs q e (λ x r e1 h1. args-fit fs s r room vs q o h1)
   args-fit (arg k ∷ fs) s p room vs q o e =
@@ -129,10 +129,10 @@ module _ (letters : Letters) where
 
   -- the words of what was read give it back, whatever stands behind them
   pub args-read : (fs : List Field) (s : List ℕ) (p room : ℕ) (vs : Args Located fs) (q : ℕ) (more : List ℕ) → Octets s → fieldsAt letters fs s p room ≡ given vs q
-      → cutArgs fs (argsFrom fs (argsWords fs (returnedArgs fs vs) ++ more)) ≡ returnedArgs fs vs
+      → cutArgs fs (argsFrom fs (argsWords fs (pooledArgs fs vs) ++ more)) ≡ pooledArgs fs vs
   args-read fs s p room vs q more o e =
       let f = args-fit fs s p room vs q o e in
-      rw (args-words fs (returnedArgs fs vs) more (flags-fit fs (returnedArgs fs vs) f)) (args-kept fs (returnedArgs fs vs) f)
+      rw (args-words fs (pooledArgs fs vs) more (flags-fit fs (pooledArgs fs vs) f)) (args-kept fs (pooledArgs fs vs) f)
 
 -- Tables among the fields: one at most, in any command and in any content header
 
@@ -224,14 +224,14 @@ pub record Read (letters : Letters) (fs : List Field) (s : List ℕ) (p room : �
   pub args : Args Located fs
   pub read : fieldsAt letters fs s p room ≡ given args next
   pub table : lastTable fs args noTable ≡ place
-  pub words : after ≡ splice 0 (argsWords fs (returnedArgs fs args)) before
+  pub words : after ≡ splice 0 (argsWords fs (pooledArgs fs args)) before
 
 pub splice-head : (xs l : List ℕ) → splice 0 xs l ≡ xs ++ drop (length xs) l
 unfolding splice
 splice-head xs l = rw (zero-add (length xs))
 
 abbrev scanned : (fs : List Field) → Args Located fs → ℕ → Answer FieldsRead
-scanned fs vs q = given (record { words = argsWords fs (returnedArgs fs vs); table = lastTable fs vs noTable }) q
+scanned fs vs q = given (record { words = argsWords fs (pooledArgs fs vs); table = lastTable fs vs noTable }) q
 
 module _ (letters : Letters) (fs : List Field) (s : List ℕ) (p room : ℕ) (before after : List ℕ) where
   pub scan-refused : (r : ReadFields) (e : WireError) → FieldsStored (scanAt letters fs s p room noTable) 0 before after r → r ≡ fields.Refused e

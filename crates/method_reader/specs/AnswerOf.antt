@@ -5,7 +5,7 @@ use Rattle.types.specs.Answer.{Answer, given, refused}
 use Rattle.types.specs.AnswerOf.{refusal}
 use Rattle.types.specs.declared.Span.{Span}
 use Rattle.tables.specs.Tape.{WithCount}
-use Rattle.method.specs.Fields.{Returned, Login}
+use Rattle.method.specs.Fields.{Pooled, Login}
 use Rattle.method.specs.Commands.{Command}
 use Rattle.method.specs.Properties.{Header}
 use Rattle.method.specs.AnswerOf.{commandOf, headerOf}
@@ -38,11 +38,11 @@ answerOfHeaderWords (headerWords.Value c n present records next) words =
     given (record { value = record { class = c; «body_size» = n; present = present; words = words }; count = records }) (next .at)
 answerOfHeaderWords (headerWords.Refused e) words = refused (refusal e)
 
-abbrev pub answerOfCommand : ReadCommand → Answer (WithCount (Command Returned))
+abbrev pub answerOfCommand : ReadCommand → Answer (WithCount (Command Pooled))
 answerOfCommand (command.Value x records next) = given (record { value = commandOf x; count = records }) (next .at)
 answerOfCommand (command.Refused e) = refused (refusal e)
 
-abbrev pub answerOfHeader : ReadContentHeader → Answer (WithCount (Header Returned))
+abbrev pub answerOfHeader : ReadContentHeader → Answer (WithCount (Header Pooled))
 answerOfHeader (header.Value x records next) = given (record { value = headerOf x; count = records }) (next .at)
 answerOfHeader (header.Refused e) = refused (refusal e)
 

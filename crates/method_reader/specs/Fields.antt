@@ -11,10 +11,10 @@ use Rattle.types.specs.Memory.{splice, Outcome, outcome}
 use Rattle.tables.specs.Letters.{Letters}
 use Rattle.tables.specs.Forest.{size}
 use Rattle.tables.specs.Tape.{WithCount, roomOf, fillTape, readTable}
-use Rattle.method.specs.Fields.{Kind, number, shortStr, bits, login, table, Field, fixed, arg, Located, Returned, Args}
+use Rattle.method.specs.Fields.{Kind, number, shortStr, bits, login, table, Field, fixed, arg, Located, Pooled, Args}
 use Rattle.method.specs.Commands.{Command}
 use Rattle.method.specs.Properties.{Header}
-use Rattle.method.specs.Reading.{argAt, fixedAt, fieldsAt, argumentsAt, propertiesAt, sizedAt, returnedArg, returnedArgs, used, commandWithTape, headerWithTape}
+use Rattle.method.specs.Reading.{argAt, fixedAt, fieldsAt, argumentsAt, propertiesAt, sizedAt, pooledArg, pooledArgs, used, commandWithTape, headerWithTape}
 use Rattle.method.specs.Words.{argWords, argsWords}
 use Rattle.method_reader.specs.declared.fields.TablePlace.{TablePlace}
 use Rattle.method_reader.specs.declared.fields.ReadField.{ReadField}
@@ -41,7 +41,7 @@ unfoldable pub fieldAt : Letters → Field → List ℕ → ℕ → ℕ → Answ
 fieldAt letters (fixed xs) s p room = andThen (fixedAt xs s p) (λ x q. given (record { words = []; records = 0 }) q)
 fieldAt letters (arg k) s p room =
     andThen (argAt letters k s p room)
-    (λ v q. given (record { words = argWords k (returnedArg k v); records = used k (returnedArg k v) }) q)
+    (λ v q. given (record { words = argWords k (pooledArg k v); records = used k (pooledArg k v) }) q)
 
 -- what its reader answers, and the words behind word j; of a refusal the words do not matter
 abbrev pub FieldStored : Answer FieldRead → ℕ → List ℕ → List ℕ → ReadField → Type 0
@@ -69,7 +69,7 @@ lastTable (arg k ∷ fs) vs last = lastTable fs (vs .1) (tableAfter k (vs .0) la
 unfoldable pub scanAt : Letters → List Field → List ℕ → ℕ → ℕ → TablePlace → Answer FieldsRead
 scanAt letters fs s p room last =
     andThen (fieldsAt letters fs s p room)
-    (λ vs q. given (record { words = argsWords fs (returnedArgs fs vs); table = lastTable fs vs last }) q)
+    (λ vs q. given (record { words = argsWords fs (pooledArgs fs vs); table = lastTable fs vs last }) q)
 
 abbrev pub FieldsStored : Answer FieldsRead → ℕ → List ℕ → List ℕ → ReadFields → Type 0
 FieldsStored (given x q) j before after r = (answerOfFields r ≡ given (x .table) q) × (after ≡ splice j (x .words) before)
@@ -85,15 +85,15 @@ tableFilled letters s place used tape = cond (eqb (place .records) 0) tape (memo
 
 -- Readers behind class and method, and behind the flags
 
-unfoldable pub readArguments : Letters → ℕ → ℕ → List ℕ → ℕ → ℕ → List ℕ → Outcome (WithCount (Command Returned))
+unfoldable pub readArguments : Letters → ℕ → ℕ → List ℕ → ℕ → ℕ → List ℕ → Outcome (WithCount (Command Pooled))
 readArguments letters c m s at used tape =
     fillTape used tape (andThen (argumentsAt letters c m s at (roomOf used tape)) (λ x q. given (commandWithTape x) q))
 
-unfoldable pub readProperties : Letters → ℕ → ℕ → ℕ → List ℕ → ℕ → ℕ → List ℕ → Outcome (WithCount (Header Returned))
+unfoldable pub readProperties : Letters → ℕ → ℕ → ℕ → List ℕ → ℕ → ℕ → List ℕ → Outcome (WithCount (Header Pooled))
 readProperties letters c n flags s at used tape =
     fillTape used tape (andThen (propertiesAt letters c n flags s at (roomOf used tape)) (λ x q. given (headerWithTape x) q))
 
-unfoldable pub readSized : Letters → ℕ → List ℕ → ℕ → ℕ → List ℕ → Outcome (WithCount (Header Returned))
+unfoldable pub readSized : Letters → ℕ → List ℕ → ℕ → ℕ → List ℕ → Outcome (WithCount (Header Pooled))
 readSized letters c s at used tape =
     fillTape used tape (andThen (sizedAt letters c s at (roomOf used tape)) (λ x q. given (headerWithTape x) q))
 

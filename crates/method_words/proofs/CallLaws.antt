@@ -2,7 +2,7 @@
 use mathlib.Core.Path.{_≡_, refl, sym, ap}
 use mathlib.Core.Bool.{true}
 use lib.ListN.{length, drop}
-use Rattle.method.specs.Fields.{Returned}
+use Rattle.method.specs.Fields.{Pooled}
 use Rattle.method.specs.Commands as table
 use Rattle.method.specs.Commands.{commands, known, fieldsOf, call}
 use Rattle.method.specs.Words.{argsWords, commandFrom}
@@ -14,7 +14,7 @@ use Rattle.method.proofs.WordLaws.{FlagsFit, args-words}
 use Rattle.method_words.specs.Words.{callOf}
 use Rattle.method_words.specs.declared.Call.{Call}
 
-abbrev Fit : table.Command Returned → Type 0
+abbrev Fit : table.Command Pooled → Type 0
 Fit (call c m vs) = (known c m ≡ true) × FlagsFit (fieldsOf c m) vs
 
 command-fit : (x : Command) → Fit (commandOf x)
@@ -45,7 +45,7 @@ command-fit (BasicNack tag multiple requeue) = (refl, (tt, (refl, tt)))
 command-fit (ConfirmSelect no-wait) = (refl, (refl, tt))
 command-fit TxSelect = (refl, tt)
 
-words-back : (y : table.Command Returned) → Fit y
+words-back : (y : table.Command Pooled) → Fit y
     → let r = callOf y in
     (y ≡ commandFrom (r .class) (r .method) (r .words)) × (known (r .class) (r .method) ≡ true)
 words-back (call c m vs) f =

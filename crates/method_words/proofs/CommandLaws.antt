@@ -14,7 +14,7 @@ use lib.Dec.{leb}
 use types.Run.{OneOf}
 use Rattle.types.proofs.Tests.{yes-leb}
 use Rattle.types.proofs.Arms.{Rest}
-use Rattle.method.specs.Fields.{Field, Returned}
+use Rattle.method.specs.Fields.{Field, Pooled}
 use Rattle.method.specs.Commands.{commands, fieldsIn, isSome, known, fieldsOf, Command, call}
 use Rattle.method.specs.Words.{argsFrom}
 use Rattle.method.specs.Layout.{fieldOf, layoutFields}
@@ -28,7 +28,7 @@ use Rattle.method_words.specs.Words.{cutArgs, commandWith, orTxSelect}
 pub word-kept : (n : ℕ) → Fits w64 n → n ≡ n % 256 ^ 8
 word-kept n f = sym (mod-eq-of-lt (f .fits))
 
-abbrev pub commandIn : ℕ → ℕ → List ℕ → Command Returned
+abbrev pub commandIn : ℕ → ℕ → List ℕ → Command Pooled
 commandIn c m ws = call c m (cutArgs (fieldsOf c m) (argsFrom (fieldsOf c m) ws))
 
 -- eight words, one by one, so that what is made of them computes
@@ -52,7 +52,7 @@ unfolding commandWith
 command-known c m ws k = rw k
 
 -- In a match on the key: an arm of one key, and the rest
-pub command-arm : (d n c m : ℕ) (ws : List ℕ) {x : Command Returned} → length ws ≡ 8 → m < 65536 → OneOf ((d * 100000 + n) ∷ []) (c * 100000 + m)
+pub command-arm : (d n c m : ℕ) (ws : List ℕ) {x : Command Pooled} → length ws ≡ 8 → m < 65536 → OneOf ((d * 100000 + n) ∷ []) (c * 100000 + m)
     → leb (suc n) 100000 ≡ true → known d n ≡ true → x ≡ commandIn d n (eight ws) → x ≡ orTxSelect (commandWith c m ws)
 command-arm d n c m ws {x} l h o k there e =
     let p = key-pair c m d n (omega arith) (yes-leb (suc n) 100000 k) o in

@@ -11,7 +11,7 @@ use lib.Seq.{getD-drop, drop-drop}
 use lib.Dec.{leb}
 use lib.Pow.{pow-pos}
 use Rattle.types.proofs.Tests.{leb-yes, leb-no, yes-leb, no-leb, decide}
-use Rattle.method.specs.Fields.{Kind, Field, arg, Returned, Args}
+use Rattle.method.specs.Fields.{Kind, Field, arg, Pooled, Args}
 use Rattle.method.specs.Properties.{properties, select, flagsOf, Header, header}
 use Rattle.method.specs.Words.{width, spanFrom, argFrom, argsFrom}
 use Rattle.method.specs.AnswerOf.{Optional, isThere, present, withFirst, chosen}
@@ -40,7 +40,7 @@ first-span words j = rw (sym (first-word words j), getD-drop j words 1 0)
 
 -- All of some properties, by their flags
 
-abbrev taken : (k : Kind) → List ℕ → Returned k
+abbrev taken : (k : Kind) → List ℕ → Pooled k
 taken k ws = cutArg k (argFrom k ws)
 
 -- each of them is the next one, and so on with what is left
@@ -52,7 +52,7 @@ pub data Picked (words : List ℕ) : (fs : List Field) → Args Optional fs → 
 -- which are present, and those
 pub record Selection (fs : List Field) : Type 0 where
   pub there : List Bool
-  pub args : Args Returned (select there fs)
+  pub args : Args Pooled (select there fs)
 
 abbrev selectionOf : (fs : List Field) → Args Optional fs → Selection fs
 selectionOf fs vs = record { there = present fs vs; args = chosen fs vs }
@@ -60,7 +60,7 @@ selectionOf fs vs = record { there = present fs vs; args = chosen fs vs }
 abbrev cutFrom : (fs : List Field) → List Bool → List ℕ → Selection fs
 cutFrom fs ps ws = record { there = ps; args = cutArgs (select ps fs) (argsFrom (select ps fs) ws) }
 
-abbrev before : (k : Kind) (fs : List Field) → Option (Returned k) → Selection fs → Selection (arg k ∷ fs)
+abbrev before : (k : Kind) (fs : List Field) → Option (Pooled k) → Selection fs → Selection (arg k ∷ fs)
 before k fs v x = record { there = isThere v ∷ x .there; args = withFirst k fs (x .there) v (x .args) }
 
 rest-flags : (w : ℕ) (rest : Rest) (width : ℕ) → rest .flags < 2 ^ suc w → restOf rest (2 ^ w) width .flags ≡ rest .flags % 2 ^ w
@@ -82,11 +82,11 @@ unfolding select chosen flagsOf argsFrom cutArgs
 picked words [] vs rest h all = refl
 picked words (arg k ∷ fs) vs rest h (next {after = after} e f more) =
     let m = ap (λ (r : Rest). r .flags) f ∙ rest-flags (length fs) rest (width (arg k)) h in
-    ap (λ (v : Option (Returned k)). before k fs v (selectionOf fs (vs .1))) e
+    ap (λ (v : Option (Pooled k)). before k fs v (selectionOf fs (vs .1))) e
     ∙ ap (before k fs (nextOf (taken k) words rest (2 ^ length fs))) (picked words fs (vs .1) after (rw m (mod-lt (rest .flags) (pow-pos (length fs)))) more)
     ∙ rw (m, f) (cut-next k fs words rest)
 
-headerIn : ℕ → ℕ → Selection properties → Header Returned
+headerIn : ℕ → ℕ → Selection properties → Header Pooled
 headerIn c n x = header c n (x .there) (x .args)
 
 pub header-picked : (c n flags : ℕ) (words : List ℕ) (vs : Args Optional properties) → flags < 8192 → Picked words properties vs (record { flags = flags; j = 0 })

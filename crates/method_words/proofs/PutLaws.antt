@@ -16,7 +16,7 @@ use Rattle.types.specs.Memory.{splice}
 use Rattle.types.specs.declared.Span.{Span}
 use Rattle.types.proofs.Tests.{true-T, leb-yes, yes-leb}
 use Rattle.types.proofs.Splice.{splice-nil, splice-length, splice-after, splice-sets}
-use Rattle.method.specs.Fields.{Kind, number, shortStr, bits, login, table, Field, fixed, arg, Returned, Args}
+use Rattle.method.specs.Fields.{Kind, number, shortStr, bits, login, table, Field, fixed, arg, Pooled, Args}
 use Rattle.method.specs.Properties.{properties, select, flagsNumber, flagsOf, header}
 use Rattle.method.specs.Words.{width, widths, argWords, argsWords, argsFrom, headerFrom}
 use Rattle.method.specs.Layout.{zeros}
@@ -37,7 +37,7 @@ use Rattle.method_words.specs.declared.properties.Done.{Done}
 pub put-absent : (k : Kind) (o : Optional k) (d : Done) (ws : List ℕ) → o ≡ none → Put (optionalWords k o) d ws ws (record { flags = d .flags * 2; j = d .j })
 put-absent k o d ws e = rw e (record { flags = omega arith; next = sym (add-zero (d .j)); memory = sym (splice-nil (d .j) ws) })
 
-pub put-present : (k : Kind) (o : Optional k) (v : Returned k) {d r : Done} {before after : List ℕ} → o ≡ some v → Put (some (argWords k v)) d before after r
+pub put-present : (k : Kind) (o : Optional k) (v : Pooled k) {d r : Done} {before after : List ℕ} → o ≡ some v → Put (some (argWords k v)) d before after r
     → Put (optionalWords k o) d before after r
 put-present k o v e p = rw e p
 
@@ -215,14 +215,14 @@ plain (arg (bits places)) = false
 plain (arg login) = true
 plain (arg table) = true
 
-plain-fit : (k : Kind) (v : Returned k) → plain (arg k) ≡ true → FlagFit k v
+plain-fit : (k : Kind) (v : Pooled k) → plain (arg k) ≡ true → FlagFit k v
 plain-fit (number n) v e = tt
 plain-fit shortStr v e = tt
 plain-fit (bits places) v e = absurd (true-T e)
 plain-fit login v e = tt
 plain-fit table v e = tt
 
-plain-fits : (ps : List Bool) (fs : List Field) (vs : Args Returned (select ps fs)) → every plain fs ≡ true → FlagsFit (select ps fs) vs
+plain-fits : (ps : List Bool) (fs : List Field) (vs : Args Pooled (select ps fs)) → every plain fs ≡ true → FlagsFit (select ps fs) vs
 unfolding select
 plain-fits [] fs vs e = tt
 plain-fits (p ∷ ps) [] vs e = tt
@@ -234,7 +234,7 @@ no-bits : every plain properties ≡ true
 unfolding properties
 no-bits = refl
 
-words-back : (c n : ℕ) (ps : List Bool) (vs : Args Returned (select ps properties)) → length ps ≡ 13
+words-back : (c n : ℕ) (ps : List Bool) (vs : Args Pooled (select ps properties)) → length ps ≡ 13
     → let r = headerWords (header c n ps vs) in
     (r .present < 8192) × (header c n ps vs ≡ headerFrom (r .class) (r .«body_size») (r .present) (r .words))
 words-back c n ps vs e =

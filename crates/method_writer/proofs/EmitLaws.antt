@@ -27,8 +27,8 @@ use Rattle.tables.specs.Letters.{Letters, errata}
 use Rattle.tables.specs.Writing.{judgeTable, writeTable}
 use Rattle.method.specs.Fields.{number, shortStr, bits, login, table, Field, fixed, arg}
 use Rattle.method.specs.Properties.{select, flagsOf}
-use Rattle.method.specs.Writing.{placed, argOctets, fieldOctets, judgeArgLength, sentArgsMeaning}
-use Rattle.method.specs.Pooled.{sentArgs, judgeReturned}
+use Rattle.method.specs.Writing.{placed, argOctets, fieldOctets, judgeArgLength}
+use Rattle.method.specs.Pooled.{pooledMeanings, judgeArg}
 use Rattle.method.specs.Words.{width, widths, flagsFrom, argFrom, argsFrom}
 use Rattle.method.specs.Layout.{fieldOf, numberWidth, places, fixedOctets}
 use Rattle.table_writer.specs.Emitting.{nextOr, Emitted}
@@ -191,7 +191,7 @@ unfolding fieldSize octetsOf
 ready-size letters pool tape (fixed xs) ws at out h = refl
 ready-size letters pool tape (arg k) ws at out h =
     let v = argMeaning letters pool tape k ws in
-    let r = ready-sized (judgeReturned letters pool tape k (argFrom k ws)) (judgeArgLength letters k v) (length (argOctets letters k v)) at out h in
+    let r = ready-sized (judgeArg letters pool tape k (argFrom k ws)) (judgeArgLength letters k v) (length (argOctets letters k v)) at out h in
     rw (r .0, r .1)
 
 module _ {letters : Letters} {pool tape ws : List ℕ} {c j at : ℕ} {out : List ℕ} (f : FieldReady letters pool tape ws c j at out) where
@@ -274,7 +274,7 @@ module _ (letters : Letters) (pool tape : List ℕ) where
 
   fields-octets : (f : Field) (fs : List Field) (ws : List ℕ)
       → octetsOfAll letters pool tape (f ∷ fs) ws ≡ octetsOf letters pool tape f ws ++ octetsOfAll letters pool tape fs (drop (width f) ws)
-  unfolding octetsOfAll octetsOf fieldOctets sentArgsMeaning sentArgs argsFrom
+  unfolding octetsOfAll octetsOf fieldOctets pooledMeanings argsFrom
   fields-octets (fixed xs) fs ws = refl
   fields-octets (arg k) fs ws = refl
 

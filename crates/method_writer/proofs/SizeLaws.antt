@@ -26,9 +26,9 @@ use Rattle.table_writer.specs.Sizes as table
 use Rattle.table_writer.specs.Sizes.{capped, tapeSize}
 use Rattle.table_writer.proofs.SizeLaws.{span-length, sized-given}
 use Rattle.method.specs.Fields as field
-use Rattle.method.specs.Fields.{Kind, number, bits, login, Field, fixed, arg, Returned}
-use Rattle.method.specs.Writing.{loginText, sentArgMeaning, argOctets, fieldOctets, judgeArgLength, judgeLengths, sentArgsMeaning}
-use Rattle.method.specs.Pooled.{sentArg, sentArgs, judgeText, judgeReturned, judgePooled}
+use Rattle.method.specs.Fields.{Kind, number, bits, login, Field, fixed, arg, Pooled}
+use Rattle.method.specs.Writing.{loginText, argOctets, fieldOctets, judgeArgLength, judgeLengths}
+use Rattle.method.specs.Pooled.{pooledMeaning, pooledMeanings, judgeText, judgeArg, judgeArgs}
 use Rattle.method.specs.Words.{width, widths, spanFrom, argFrom, argsFrom}
 use Rattle.method.specs.Properties.{select, flagsOf}
 use Rattle.method.specs.Layout.{fieldOf}
@@ -108,10 +108,10 @@ nothing-left false n = ap octets (omega arith)
 module _ (pool tape : List ℕ) where
   pub fields-size : (f : Field) (fs : List Field) (ws : List ℕ)
       → fieldsSize errata pool tape (f ∷ fs) ws ≡ both (fieldSize errata pool tape f ws) (fieldsSize errata pool tape fs (drop (width f) ws))
-  unfolding fieldSize fieldsSize judgePooled judgeLengths fieldOctets sentArgs sentArgsMeaning argsFrom
+  unfolding fieldSize fieldsSize judgeArgs judgeLengths fieldOctets pooledMeanings argsFrom
   fields-size (fixed xs) fs ws =
       let vs = argsMeaning errata pool tape fs ws in
-      sized-both none (judgePooled errata pool tape fs (argsFrom fs ws)) none (judgeLengths errata fs vs) (length xs) (length (fieldOctets errata fs vs)) (length (xs ++ fieldOctets errata fs vs))
+      sized-both none (judgeArgs errata pool tape fs (argsFrom fs ws)) none (judgeLengths errata fs vs) (length xs) (length (fieldOctets errata fs vs)) (length (xs ++ fieldOctets errata fs vs))
       (length-append xs (fieldOctets errata fs vs))
   fields-size (arg k) fs ws =
       let more = drop (width (arg k)) ws in
@@ -119,11 +119,11 @@ module _ (pool tape : List ℕ) where
       let vs = argsMeaning errata pool tape fs more in
       let xs = argOctets errata k v in
       let ys = fieldOctets errata fs vs in
-      sized-both (judgeReturned errata pool tape k (argFrom k ws)) (judgePooled errata pool tape fs (argsFrom fs more)) (judgeArgLength errata k v) (judgeLengths errata fs vs) (length xs) (length ys) (length (xs ++ ys))
+      sized-both (judgeArg errata pool tape k (argFrom k ws)) (judgeArgs errata pool tape fs (argsFrom fs more)) (judgeArgLength errata k v) (judgeLengths errata fs vs) (length xs) (length ys) (length (xs ++ ys))
       (length-append xs ys)
 
   pub no-fields-size : (ws : List ℕ) → fieldsSize errata pool tape [] ws ≡ octets 0
-  unfolding fieldsSize judgePooled judgeLengths fieldOctets
+  unfolding fieldsSize judgeArgs judgeLengths fieldOctets
   no-fields-size ws = refl
 
 -- Texts of a pool
@@ -153,12 +153,12 @@ module _ (pool : List ℕ) (start len : ℕ) where
 -- An argument by its words
 
 module _ (pool tape : List ℕ) where
-  abbrev pub argSize : (k : Kind) → Returned k → Size
+  abbrev pub argSize : (k : Kind) → Pooled k → Size
   argSize k v =
-      let x = sentArgMeaning errata k (sentArg errata pool tape k v) in
-      sized (judgeReturned errata pool tape k v) (judgeArgLength errata k x) (length (argOctets errata k x))
+      let x = pooledMeaning errata pool tape k v in
+      sized (judgeArg errata pool tape k v) (judgeArgLength errata k x) (length (argOctets errata k x))
 
-  pub arg-size : (k : Kind) (ws : List ℕ) (v : Returned k) → argFrom k ws ≡ v → fieldSize errata pool tape (arg k) ws ≡ argSize k v
+  pub arg-size : (k : Kind) (ws : List ℕ) (v : Pooled k) → argFrom k ws ≡ v → fieldSize errata pool tape (arg k) ws ≡ argSize k v
   unfolding fieldSize
   arg-size k ws v e = ap (argSize k) e
 
@@ -331,14 +331,14 @@ module _ (pool tape ws : List ℕ) where
   few-small (arg (number k)) m h e = omega (arith, sized-octets none none _ m e .2, length-octets k (argFrom (number k) ws))
   few-small (arg field.shortStr) m h e =
       let xs = octetsOf pool (spanFrom ws) in
-      let a = sized-octets (judgeReturned errata pool tape field.shortStr (spanFrom ws)) none (length (shortStr xs)) m e in
+      let a = sized-octets (judgeArg errata pool tape field.shortStr (spanFrom ws)) none (length (shortStr xs)) m e in
       let b = test-none (inPool pool (spanFrom ws .start) (spanFrom ws .len)) truncated (judgeShortStr xs) (a .0) in
       let d = test-none (leb (length xs) 255) shortStrTooLong (test (utf8 xs) notUtf8 none) (b .1) in
       omega (arith, a .2, yes-leb (length xs) 255 (d .0))
   few-small (arg (bits places)) m h e = omega (arith, sized-octets none none _ m e .2)
   few-small (arg login) m h e =
       let x = argMeaning errata pool tape login ws in
-      let a = sized-octets (judgeReturned errata pool tape login (argFrom login ws)) (judgeLength (length (loginText x))) (length (longStr (loginText x))) m e in
+      let a = sized-octets (judgeArg errata pool tape login (argFrom login ws)) (judgeLength (length (loginText x))) (length (longStr (loginText x))) m e in
       omega (arith, a .2, at-most-length (length (loginText x)) (a .1))
   few-small (arg field.table) m h e =
       let xs = body errata true (tapeMeaning errata pool tape) in

@@ -24,11 +24,11 @@ use Rattle.tables.specs.Writing.{body}
 use Rattle.table_writer.specs.Sizes as payload
 use Rattle.table_writer.specs.Emitting.{nextOr, Emitted}
 use Rattle.table_writer.proofs.EmitLaws.{number-emitted, emitted-length, emitted-after}
-use Rattle.method.specs.Fields.{Kind, number, shortStr, bits, login, table, Field, fixed, arg, Meaning, Returned, Args}
+use Rattle.method.specs.Fields.{Kind, number, shortStr, bits, login, table, Field, fixed, arg, Meaning, Pooled, Args}
 use Rattle.method.specs.Commands.{commands, fieldsIn, known, fieldsOf, Command}
 use Rattle.method.specs.Properties.{properties, select, flagsNumber, flagsOf, Header}
 use Rattle.method.specs.Writing.{loginText, commandOctets, headerOctets, fieldOctets, judgeArgLength, judgeLengths}
-use Rattle.method.specs.Pooled.{judgePooled, refusalPooled, commandRefusalPooled, headerRefusalPooled, pooledCommandMeaning, pooledHeaderMeaning, writeCommandPooled, writeHeaderPooled}
+use Rattle.method.specs.Pooled.{judgeArgs, refusalOf, commandRefusal, headerRefusal, pooledCommandMeaning, pooledHeaderMeaning, writeCommand, writeHeader}
 use Rattle.method.specs.Words.{width, widths, argsFrom, commandFrom, headerFrom}
 use Rattle.method.specs.Layout.{fieldOf, layoutFields}
 use Rattle.method.specs.declared.layout.Layout.{Layout}
@@ -75,13 +75,13 @@ module _ (letters : Letters) (pool tape : List ℕ) (fs : List Field) (ws : List
   fieldsHere = octetsOfAll letters pool tape fs ws
 
   abbrev judged : Option Refusal
-  judged = judgePooled letters pool tape fs (argsFrom fs ws)
+  judged = judgeArgs letters pool tape fs (argsFrom fs ws)
 
   abbrev lengths : Option Refusal
   lengths = judgeLengths letters fs (argsMeaning letters pool tape fs ws)
 
   abbrev refusalHere : Option Refusal
-  refusalHere = refusalPooled letters pool tape fs (argsFrom fs ws)
+  refusalHere = refusalOf letters pool tape fs (argsFrom fs ws)
 
   refused-here : (r : Refusal) → refused r ≡ fieldsSize letters pool tape fs ws → refusalHere ≡ some r
   unfolding fieldsSize octetsOfAll
@@ -200,7 +200,7 @@ fields-small pool tape (true ∷ ps) (c ∷ layout) ws n e =
 
 -- A command whose fields are all present in its layout
 
-module _ (pool tape : List ℕ) (x : Command Returned) (c m : ℕ) (ws : List ℕ) (l : Layout) (is : (x ≡ commandFrom c m ws) × (known c m ≡ true))
+module _ (pool tape : List ℕ) (x : Command Pooled) (c m : ℕ) (ws : List ℕ) (l : Layout) (is : (x ≡ commandFrom c m ws) × (known c m ≡ true))
     (laid : layoutFields l ≡ fieldsIn commands c m) where
   abbrev pub commandFields : List Field
   commandFields = select (flagsOf 13 8191) (map fieldOf (take (l .count) (l .fields)))
@@ -216,27 +216,27 @@ module _ (pool tape : List ℕ) (x : Command Returned) (c m : ℕ) (ws : List �
 
   -- its refusal and its octets, in any use of both
   command-sent : {A : Type 0} (f : Option Refusal → List ℕ → A)
-      → f (refusalPooled errata pool tape commandFields (argsFrom commandFields ws)) (commandHead ++ fieldsHere errata pool tape commandFields ws)
-      ≡ f (commandRefusalPooled errata pool tape x) (commandOctets errata (pooledCommandMeaning errata pool tape x))
+      → f (refusalOf errata pool tape commandFields (argsFrom commandFields ws)) (commandHead ++ fieldsHere errata pool tape commandFields ws)
+      ≡ f (commandRefusal errata pool tape x) (commandOctets errata (pooledCommandMeaning errata pool tape x))
   unfolding commandOctets octetsOfAll
   command-sent f =
       rw (is .0, command-fields)
-      (ap (f (refusalPooled errata pool tape (fieldsOf c m) (argsFrom (fieldsOf c m) ws)))
+      (ap (f (refusalOf errata pool tape (fieldsOf c m) (argsFrom (fieldsOf c m) ws)))
       (append-assoc (number.octets 2 c) (number.octets 2 m) (fieldOctets errata (fieldsOf c m) (argsMeaning errata pool tape (fieldsOf c m) ws))))
 
   pub command-size : sizeBehind errata pool tape commandFields ws commandHead
-      ≡ payload.sized (commandRefusalPooled errata pool tape x) (length (commandOctets errata (pooledCommandMeaning errata pool tape x)))
+      ≡ payload.sized (commandRefusal errata pool tape x) (length (commandOctets errata (pooledCommandMeaning errata pool tape x)))
   command-size = command-sent (λ r xs. payload.sized r (length xs))
 
-  pub command-behind : (at : ℕ) (out : List ℕ) → behind errata pool tape commandFields ws commandHead at out ≡ writeCommandPooled errata pool tape x at out
-  unfolding writeCommandPooled
+  pub command-behind : (at : ℕ) (out : List ℕ) → behind errata pool tape commandFields ws commandHead at out ≡ writeCommand errata pool tape x at out
+  unfolding writeCommand
   command-behind at out = command-sent (λ r xs. writeAt r xs at out)
 
 -- A command in words
 
 module _ (letters : Letters) (pool tape : List ℕ) where
   pub call-known : (x : Call) → known (x .class) (x .method) ≡ true → (at : ℕ) (out : List ℕ)
-      → writeCommandPooled letters pool tape (commandFrom (x .class) (x .method) (x .words)) at out ≡ writeCall letters pool tape x at out
+      → writeCommand letters pool tape (commandFrom (x .class) (x .method) (x .words)) at out ≡ writeCall letters pool tape x at out
   unfolding writeCall
   call-known x k at out = rw k
 
@@ -245,13 +245,13 @@ module _ (letters : Letters) (pool tape : List ℕ) where
   unfolding writeCall
   call-unknown x k at out = rw k
 
-  pub call-written : (y : Command Returned) (x : Call) → (y ≡ commandFrom (x .class) (x .method) (x .words)) × (known (x .class) (x .method) ≡ true) → (at : ℕ) (out : List ℕ)
-      → writeCall letters pool tape x at out ≡ writeCommandPooled letters pool tape y at out
-  call-written y x is at out = sym (call-known x (is .1) at out) ∙ ap (λ z. writeCommandPooled letters pool tape z at out) (sym (is .0))
+  pub call-written : (y : Command Pooled) (x : Call) → (y ≡ commandFrom (x .class) (x .method) (x .words)) × (known (x .class) (x .method) ≡ true) → (at : ℕ) (out : List ℕ)
+      → writeCall letters pool tape x at out ≡ writeCommand letters pool tape y at out
+  call-written y x is at out = sym (call-known x (is .1) at out) ∙ ap (λ z. writeCommand letters pool tape z at out) (sym (is .0))
 
 -- A content header with the properties that are present
 
-module _ (pool tape : List ℕ) (x : Header Returned) (c n r : ℕ) (ws layout : List ℕ) (is : x ≡ headerFrom c n r ws) (small : r < 8192) (laid : map fieldOf layout ≡ properties) where
+module _ (pool tape : List ℕ) (x : Header Pooled) (c n r : ℕ) (ws layout : List ℕ) (is : x ≡ headerFrom c n r ws) (small : r < 8192) (laid : map fieldOf layout ≡ properties) where
   abbrev pub headerFields : List Field
   headerFields = select (flagsOf 13 r) (map fieldOf layout)
 
@@ -263,8 +263,8 @@ module _ (pool tape : List ℕ) (x : Header Returned) (c n r : ℕ) (ws layout :
 
   -- its refusal and its octets, in any use of both
   header-sent : {A : Type 0} (f : Option Refusal → List ℕ → A)
-      → f (refusalPooled errata pool tape headerFields (argsFrom headerFields ws)) (headerHead ++ fieldsHere errata pool tape headerFields ws)
-      ≡ f (headerRefusalPooled errata pool tape x) (headerOctets errata (pooledHeaderMeaning errata pool tape x))
+      → f (refusalOf errata pool tape headerFields (argsFrom headerFields ws)) (headerHead ++ fieldsHere errata pool tape headerFields ws)
+      ≡ f (headerRefusal errata pool tape x) (headerOctets errata (pooledHeaderMeaning errata pool tape x))
   unfolding headerOctets octetsOfAll
   header-sent f =
       let fs = select (flagsOf 13 r) properties in
@@ -273,15 +273,15 @@ module _ (pool tape : List ℕ) (x : Header Returned) (c n r : ℕ) (ws layout :
       let size = number.octets 8 n in
       let last = number.octets 2 (8 * flagsNumber (flagsOf 13 r)) in
       rw (is, laid, flags)
-      (ap (f (refusalPooled errata pool tape fs (argsFrom fs ws)))
+      (ap (f (refusalOf errata pool tape fs (argsFrom fs ws)))
       (append-assoc ((number.octets 2 c ++ number.octets 2 0) ++ size) last rest
       ∙ append-assoc (number.octets 2 c ++ number.octets 2 0) size (last ++ rest)
       ∙ append-assoc (number.octets 2 c) (number.octets 2 0) (size ++ (last ++ rest))))
 
   pub header-size : sizeBehind errata pool tape headerFields ws headerHead
-      ≡ payload.sized (headerRefusalPooled errata pool tape x) (length (headerOctets errata (pooledHeaderMeaning errata pool tape x)))
+      ≡ payload.sized (headerRefusal errata pool tape x) (length (headerOctets errata (pooledHeaderMeaning errata pool tape x)))
   header-size = header-sent (λ r xs. payload.sized r (length xs))
 
-  pub header-behind : (at : ℕ) (out : List ℕ) → behind errata pool tape headerFields ws headerHead at out ≡ writeHeaderPooled errata pool tape x at out
-  unfolding writeHeaderPooled
+  pub header-behind : (at : ℕ) (out : List ℕ) → behind errata pool tape headerFields ws headerHead at out ≡ writeHeader errata pool tape x at out
+  unfolding writeHeader
   header-behind at out = header-sent (λ r xs. writeAt r xs at out)

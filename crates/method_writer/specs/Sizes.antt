@@ -5,9 +5,9 @@ use Prim.Native.Nat.{ℕ}
 use lib.ListN.{length}
 use Rattle.types.specs.Answer.{Refusal, tooLong}
 use Rattle.tables.specs.Letters.{Letters}
-use Rattle.method.specs.Fields.{Kind, Field, fixed, arg, Meaning, Returned, Args}
-use Rattle.method.specs.Writing.{sentArgMeaning, sentArgsMeaning, argOctets, fieldOctets, judgeArgLength, judgeLengths}
-use Rattle.method.specs.Pooled.{sentArg, sentArgs, judgeReturned, judgePooled}
+use Rattle.method.specs.Fields.{Kind, Field, fixed, arg, Meaning, Pooled, Args}
+use Rattle.method.specs.Writing.{argOctets, fieldOctets, judgeArgLength, judgeLengths}
+use Rattle.method.specs.Pooled.{pooledMeaning, pooledMeanings, judgeArg, judgeArgs}
 use Rattle.method.specs.Words.{argFrom, argsFrom}
 
 pub data Size : Type 0 where
@@ -25,21 +25,21 @@ module _ (letters : Letters) (pool tape : List ℕ) where
   -- what an argument and arguments mean, from their words
 
   abbrev pub argMeaning : (k : Kind) → List ℕ → Meaning k
-  argMeaning k ws = sentArgMeaning letters k (sentArg letters pool tape k (argFrom k ws))
+  argMeaning k ws = pooledMeaning letters pool tape k (argFrom k ws)
 
   abbrev pub argsMeaning : (fs : List Field) → List ℕ → Args Meaning fs
-  argsMeaning fs ws = sentArgsMeaning letters fs (sentArgs letters pool tape fs (argsFrom fs ws))
+  argsMeaning fs ws = pooledMeanings letters pool tape fs (argsFrom fs ws)
 
   -- a field, and fields
 
   unfoldable pub fieldSize : Field → List ℕ → Size
   fieldSize (fixed xs) ws = octets (length xs)
   fieldSize (arg k) ws =
-      sized (judgeReturned letters pool tape k (argFrom k ws)) (judgeArgLength letters k (argMeaning k ws)) (length (argOctets letters k (argMeaning k ws)))
+      sized (judgeArg letters pool tape k (argFrom k ws)) (judgeArgLength letters k (argMeaning k ws)) (length (argOctets letters k (argMeaning k ws)))
 
   unfoldable pub fieldsSize : List Field → List ℕ → Size
   fieldsSize fs ws =
-      sized (judgePooled letters pool tape fs (argsFrom fs ws)) (judgeLengths letters fs (argsMeaning fs ws)) (length (fieldOctets letters fs (argsMeaning fs ws)))
+      sized (judgeArgs letters pool tape fs (argsFrom fs ws)) (judgeLengths letters fs (argsMeaning fs ws)) (length (fieldOctets letters fs (argsMeaning fs ws)))
 
   -- the octets of a field
 

@@ -7,7 +7,7 @@ ghost use Rattle.types.specs.Memory.{outcome};
 ghost use Rattle.writers.specs.AnswerOf.{answerOfWritten};
 ghost use Rattle.tables.specs.Letters.{errata};
 ghost use Rattle.table_writer.specs.Sizes.{sized};
-ghost use Rattle.method.specs.Pooled.{commandRefusalPooled, pooledCommandMeaning, writeCommandPooled};
+ghost use Rattle.method.specs.Pooled.{commandRefusal, pooledCommandMeaning, writeCommand};
 ghost use Rattle.method.specs.Writing.{commandOctets};
 ghost use Rattle.method.specs.Commands.{commands, fieldsIn, known};
 ghost use Rattle.method.specs.Words.{commandFrom};
@@ -35,7 +35,7 @@ const ALL: u16 = 0x1FFF;
 
 // Judges a command as its writer does, but for the space. Nothing is written.
 pub fn judge_command(command: Command, pool: &[u8], tape: &[u64]) -> PayloadSize
-    ensures { λ r. ⌜ answerOfPayloadSize r ≡ sized (commandRefusalPooled errata (now (pool .entry)) (now (tape .entry)) (commandOf command)) (length (commandOctets errata (pooledCommandMeaning errata (now (pool .entry)) (now (tape .entry)) (commandOf command)))) ⌝ }
+    ensures { λ r. ⌜ answerOfPayloadSize r ≡ sized (commandRefusal errata (now (pool .entry)) (now (tape .entry)) (commandOf command)) (length (commandOctets errata (pooledCommandMeaning errata (now (pool .entry)) (now (tape .entry)) (commandOf command)))) ⌝ }
 {
     let call = call_of(command);
     let words = call.words;
@@ -59,7 +59,7 @@ fn write_fields(
     tape: &[u64],
 ) -> Written
     requires { ⌜ (known (call .class) (call .method) ≡ true) × (layoutFields layout ≡ fieldsIn commands (call .class) (call .method)) × (layout .count ≤ 8) ⌝ }
-    ensures { λ r. ⌜ outcome (answerOfWritten r) (now (out .exit)) ≡ writeCommandPooled errata (now (pool .entry)) (now (tape .entry)) (commandFrom (call .class) (call .method) (call .words)) at (now (out .entry)) ⌝ }
+    ensures { λ r. ⌜ outcome (answerOfWritten r) (now (out .exit)) ≡ writeCommand errata (now (pool .entry)) (now (tape .entry)) (commandFrom (call .class) (call .method) (call .words)) at (now (out .entry)) ⌝ }
 {
     let words = call.words;
     let fields = layout.fields;
@@ -99,7 +99,7 @@ pub fn write_command(
     pool: &[u8],
     tape: &[u64],
 ) -> Written
-    ensures { λ r. ⌜ outcome (answerOfWritten r) (now (out .exit)) ≡ writeCommandPooled errata (now (pool .entry)) (now (tape .entry)) (commandOf command) at (now (out .entry)) ⌝ }
+    ensures { λ r. ⌜ outcome (answerOfWritten r) (now (out .exit)) ≡ writeCommand errata (now (pool .entry)) (now (tape .entry)) (commandOf command) at (now (out .entry)) ⌝ }
 {
     write_call(out, at, call_of(command), pool, tape)
 }

@@ -6,7 +6,7 @@ ghost use Rattle.types.specs.Memory.{outcome};
 ghost use Rattle.writers.specs.AnswerOf.{answerOfWritten};
 ghost use Rattle.tables.specs.Letters.{errata};
 ghost use Rattle.table_writer.specs.Sizes.{sized};
-ghost use Rattle.method.specs.Pooled.{headerRefusalPooled, pooledHeaderMeaning, writeHeaderPooled};
+ghost use Rattle.method.specs.Pooled.{headerRefusal, pooledHeaderMeaning, writeHeader};
 ghost use Rattle.method.specs.Writing.{headerOctets};
 ghost use Rattle.method.specs.AnswerOf.{headerOf};
 ghost use Rattle.method_writer.specs.AnswerOf.{answerOfPayloadSize};
@@ -26,7 +26,7 @@ use writers::write_u64;
 
 // Judges a content header as its writer does, but for the space. Nothing is written.
 pub fn judge_content_header(header: ContentHeader, pool: &[u8], tape: &[u64]) -> PayloadSize
-    ensures { λ r. ⌜ answerOfPayloadSize r ≡ sized (headerRefusalPooled errata (now (pool .entry)) (now (tape .entry)) (headerOf header)) (length (headerOctets errata (pooledHeaderMeaning errata (now (pool .entry)) (now (tape .entry)) (headerOf header)))) ⌝ }
+    ensures { λ r. ⌜ answerOfPayloadSize r ≡ sized (headerRefusal errata (now (pool .entry)) (now (tape .entry)) (headerOf header)) (length (headerOctets errata (pooledHeaderMeaning errata (now (pool .entry)) (now (tape .entry)) (headerOf header)))) ⌝ }
 {
     let head = header_words(header);
     let words = head.words;
@@ -47,7 +47,7 @@ pub fn write_content_header(
     pool: &[u8],
     tape: &[u64],
 ) -> Written
-    ensures { λ r. ⌜ outcome (answerOfWritten r) (now (out .exit)) ≡ writeHeaderPooled errata (now (pool .entry)) (now (tape .entry)) (headerOf header) at (now (out .entry)) ⌝ }
+    ensures { λ r. ⌜ outcome (answerOfWritten r) (now (out .exit)) ≡ writeHeader errata (now (pool .entry)) (now (tape .entry)) (headerOf header) at (now (out .entry)) ⌝ }
 {
     let head = header_words(header);
     let words = head.words;

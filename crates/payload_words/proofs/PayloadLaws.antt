@@ -15,7 +15,7 @@ use Rattle.types.specs.Answer.{unknownMethod}
 use Rattle.types.specs.Memory.{splice}
 use Rattle.types.proofs.Tests.{yes-leb, decide}
 use Rattle.tables.proofs.JudgeLaws.{and-true}
-use Rattle.method.specs.Fields.{Returned}
+use Rattle.method.specs.Fields.{Pooled}
 use Rattle.method.specs.Commands.{Row, commands, fieldsIn, known, Command}
 use Rattle.method.specs.Properties.{Header}
 use Rattle.method.specs.Layout.{zeros}
@@ -72,7 +72,7 @@ part-copied : (k n : ℕ) (ws before after : List ℕ) → length ws ≡ 26 → 
 part-copied k n ws before after l h b e =
     e ∙ splice-whole (take n (drop k ws)) before (length-take-le n (drop k ws) (omega (arith, length-drop k ws)) ∙ sym b)
 
-pub command-taken : (ws args : List ℕ) (d n : ℕ) (o : Option (Command Returned)) → length ws ≡ 26 → args ≡ splice 0 (take 8 (drop 3 ws)) (zeros 8)
+pub command-taken : (ws args : List ℕ) (d n : ℕ) (o : Option (Command Pooled)) → length ws ≡ 26 → args ≡ splice 0 (take 8 (drop 3 ws)) (zeros 8)
     → getD ws 1 0 ≡ d → getD ws 2 0 ≡ n → o ≡ commandWith d n args → commandOr (getD ws 1 0) (getD ws 2 0) o ≡ commandFrom ws
 command-taken ws args d n o l a e f h =
     ap (commandOr (getD ws 1 0) (getD ws 2 0))
@@ -81,7 +81,7 @@ command-taken ws args d n o l a e f h =
     ∙ ap (λ (m : ℕ). commandWith (getD ws 1 0) m args) (sym f)
     ∙ ap (commandWith (getD ws 1 0) (getD ws 2 0)) (part-copied 3 8 ws (zeros 8) args l (omega arith) refl a))
 
-pub header-taken : (ws words : List ℕ) (x : Header Returned) → length ws ≡ 26 → words ≡ splice 0 (take 22 (drop 4 ws)) (zeros 22)
+pub header-taken : (ws words : List ℕ) (x : Header Pooled) → length ws ≡ 26 → words ≡ splice 0 (take 22 (drop 4 ws)) (zeros 22)
     → x ≡ headerWith (getD ws 1 0 % 65536) (getD ws 2 0) (getD ws 3 0 % 65536 % 8192) words → x ≡ headerFrom ws
 header-taken ws words x l a h =
     let bits : getD ws 3 0 % 65536 % 8192 ≡ getD ws 3 0 % 8192 = omega arith in

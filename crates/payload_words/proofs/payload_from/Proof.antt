@@ -9,7 +9,7 @@ use Rattle.types.specs.Answer.{Refusal, unsupportedFieldType}
 use Rattle.types.specs.Lookup.{row}
 use Rattle.types.specs.declared.Span.{Span}
 use Rattle.types.proofs.Arms.{arm, rest}
-use Rattle.method.specs.Fields.{Returned}
+use Rattle.method.specs.Fields.{Pooled}
 use Rattle.method.specs.Properties.{Header}
 use Rattle.frame.specs.Step.{Payload, header, body, heartbeat}
 use Rattle.payload_words.specs.Words.{commandFrom, headerFrom, bodyFrom, payloadOfType}
@@ -17,7 +17,7 @@ use borrow.Author.Needs.{needs}
 use Rattle.payload_words.proofs.payload_from.Statement.{statement}
 use Rattle.payload_words.proofs.payload_from.Tie as tie
 
-of-type : (ws : List ℕ) (k : ℕ) {v : Payload Returned Span ⊎ Refusal} → OneOf (k ∷ []) (getD ws 0 0) → payloadOfType ws k ≡ v → v ≡ payloadOfType ws (getD ws 0 0)
+of-type : (ws : List ℕ) (k : ℕ) {v : Payload Pooled Span ⊎ Refusal} → OneOf (k ∷ []) (getD ws 0 0) → payloadOfType ws k ≡ v → v ≡ payloadOfType ws (getD ws 0 0)
 of-type ws k {v} o e = sym (arm (payloadOfType ws) v (k ∷ []) (getD ws 0 0) (e, tt) o)
 
 array-read-match : tie.Need-array-read-match
@@ -42,7 +42,7 @@ returns : tie.Need-returns
 returns c = c .command-from .ensures ∙ of-type (c .before .before .args .t1) 1 (c .before .match .keys1) refl
 
 returns-2 : tie.Need-returns-2
-returns-2 c = ap (λ (x : Header Returned). inl (header x)) (c .header-from .ensures) ∙ of-type (c .before .before .args .t1) 2 (c .before .match .keys2) refl
+returns-2 c = ap (λ (x : Header Pooled). inl (header x)) (c .header-from .ensures) ∙ of-type (c .before .before .args .t1) 2 (c .before .match .keys2) refl
 
 returns-3 : tie.Need-returns-3
 returns-3 c = of-type (c .before .args .t1) 3 (c .match .keys3) refl

@@ -5,7 +5,7 @@ use Rattle.types.specs.Answer.{Refusal, refused}
 use Rattle.types.specs.AnswerOf.{refusal}
 use Rattle.types.specs.declared.Span.{Span}
 use Rattle.tables.specs.Letters.{errata}
-use Rattle.method.specs.Fields.{Returned}
+use Rattle.method.specs.Fields.{Pooled}
 use Rattle.frame.specs.Step.{Payload}
 use Rattle.payload_words.specs.Words.{payloadFrom}
 use Rattle.payload_words.specs.AnswerOf.{answerOfPayload}
@@ -25,7 +25,7 @@ made : (s : tie.Start) {r k : PayloadFrom}
     ≡ writeFrom errata (a .channel) (a .pool .now) (a .tape .now) (payloadFrom (a .payload .now)) (a .at) (a .out .now)
 made s e h =
     let a = s .args in
-    ap (λ (x : Payload Returned Span ⊎ Refusal). writeFrom errata (a .channel) (a .pool .now) (a .tape .now) x (a .at) (a .out .now)) (ap answerOfPayload (sym e) ∙ h)
+    ap (λ (x : Payload Pooled Span ⊎ Refusal). writeFrom errata (a .channel) (a .pool .now) (a .tape .now) x (a .at) (a .out .now)) (ap answerOfPayload (sym e) ∙ h)
 
 payload-from-requires : tie.Need-payload-from-requires
 payload-from-requires c κs = search needs

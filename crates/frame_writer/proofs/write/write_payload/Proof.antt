@@ -1,6 +1,6 @@
 -- `frame_writer::write::write_payload` meets its contract. Assumes nothing.
 use Rattle.writers.specs.Writers.{writeOctets}
-use Rattle.method.specs.Pooled.{writeCommandPooled, writeHeaderPooled}
+use Rattle.method.specs.Pooled.{writeCommand, writeHeader}
 use Rattle.frame.specs.Writing.{framePayloadOctets}
 use borrow.Author.Needs.{needs}
 use Rattle.frame_writer.proofs.write.write_payload.Statement.{statement}
@@ -43,14 +43,14 @@ same-length : tie.Need-same-length
 same-length c = search needs
 
 returns : tie.Need-returns
-unfolding writeCommandPooled framePayloadOctets
+unfolding writeCommand framePayloadOctets
 returns c = rw (c .before .before .before .before .before .payload .given .1) (c .before .before .write-command .ensures)
 
 same-length-2 : tie.Need-same-length-2
 same-length-2 c = search needs
 
 returns-2 : tie.Need-returns-2
-unfolding writeHeaderPooled framePayloadOctets
+unfolding writeHeader framePayloadOctets
 returns-2 c = rw (c .before .before .before .before .before .payload2 .given .1) (c .before .before .write-content-header .ensures)
 
 same-length-3 : tie.Need-same-length-3

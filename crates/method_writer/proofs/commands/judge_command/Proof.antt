@@ -12,7 +12,7 @@ use Rattle.table_writer.specs.Sizes as payload
 use Rattle.method.specs.Fields.{Field}
 use Rattle.method.specs.Properties.{select, flagsOf}
 use Rattle.method.specs.Writing.{commandOctets}
-use Rattle.method.specs.Pooled.{commandRefusalPooled, pooledCommandMeaning}
+use Rattle.method.specs.Pooled.{commandRefusal, pooledCommandMeaning}
 use Rattle.method.specs.Words.{widths}
 use Rattle.method.specs.Layout.{fieldOf}
 use Rattle.method.specs.AnswerOf.{commandOf}
@@ -48,7 +48,7 @@ head c = number.octets 2 (call c .class) ++ number.octets 2 (call c .method)
 whole : (c : tie.After-size-fields)
     → let a = start c .args in
     sizeBehind errata (a .pool .now) (a .tape .now) (fields c) (call c .words) (head c)
-    ≡ payload.sized (commandRefusalPooled errata (a .pool .now) (a .tape .now) (commandOf (a .command))) (length (commandOctets errata (pooledCommandMeaning errata (a .pool .now) (a .tape .now) (commandOf (a .command)))))
+    ≡ payload.sized (commandRefusal errata (a .pool .now) (a .tape .now) (commandOf (a .command))) (length (commandOctets errata (pooledCommandMeaning errata (a .pool .now) (a .tape .now) (commandOf (a .command)))))
 whole c =
     let a = start c .args in
     command-size (a .pool .now) (a .tape .now) (commandOf (a .command)) (call c .class) (call c .method) (call c .words) (layout c)

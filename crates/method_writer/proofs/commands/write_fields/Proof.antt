@@ -12,7 +12,7 @@ use Rattle.table_writer.specs.Emitting.{Emitted}
 use Rattle.table_writer.proofs.EmitLaws.{number-emitted, emitted-length}
 use Rattle.method.specs.Fields.{Field}
 use Rattle.method.specs.Properties.{select, flagsOf}
-use Rattle.method.specs.Pooled.{writeCommandPooled}
+use Rattle.method.specs.Pooled.{writeCommand}
 use Rattle.method.specs.Words.{widths, commandFrom}
 use Rattle.method.specs.Layout.{fieldOf}
 use Rattle.method.specs.declared.layout.Layout.{Layout}
@@ -46,7 +46,7 @@ head c = number.octets 2 (call c .class) ++ number.octets 2 (call c .method)
 whole : (c : tie.After-size-fields)
     → let a = start c .args in
     behind errata (a .pool .now) (a .tape .now) (fields c) (call c .words) (head c) (a .at) (a .out .now)
-    ≡ writeCommandPooled errata (a .pool .now) (a .tape .now) (commandFrom (call c .class) (call c .method) (call c .words)) (a .at) (a .out .now)
+    ≡ writeCommand errata (a .pool .now) (a .tape .now) (commandFrom (call c .class) (call c .method) (call c .words)) (a .at) (a .out .now)
 whole c =
     let a = start c .args in
     command-behind (a .pool .now) (a .tape .now) (commandFrom (call c .class) (call c .method) (call c .words)) (call c .class) (call c .method) (call c .words) (layout c)

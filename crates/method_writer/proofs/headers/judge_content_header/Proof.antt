@@ -11,7 +11,7 @@ use Rattle.table_writer.specs.Sizes as payload
 use Rattle.method.specs.Fields.{Field}
 use Rattle.method.specs.Properties.{select, flagsOf}
 use Rattle.method.specs.Writing.{headerOctets}
-use Rattle.method.specs.Pooled.{headerRefusalPooled, pooledHeaderMeaning}
+use Rattle.method.specs.Pooled.{headerRefusal, pooledHeaderMeaning}
 use Rattle.method.specs.Words.{widths, headerFrom}
 use Rattle.method.specs.Layout.{fieldOf}
 use Rattle.method.specs.AnswerOf.{headerOf}
@@ -56,7 +56,7 @@ head c = ((number.octets 2 (head-words c .class) ++ number.octets 2 0) ++ number
 whole : (c : tie.After-size-fields)
     → let a = start c .args in
     sizeBehind errata (a .pool .now) (a .tape .now) (fields c) (words c) (head c)
-    ≡ payload.sized (headerRefusalPooled errata (a .pool .now) (a .tape .now) (headerOf (start c .args .header))) (length (headerOctets errata (pooledHeaderMeaning errata (a .pool .now) (a .tape .now) (headerOf (start c .args .header)))))
+    ≡ payload.sized (headerRefusal errata (a .pool .now) (a .tape .now) (headerOf (start c .args .header))) (length (headerOctets errata (pooledHeaderMeaning errata (a .pool .now) (a .tape .now) (headerOf (start c .args .header)))))
 whole c =
     let a = start c .args in
     let p = back (c .before .before .before .before .before) in

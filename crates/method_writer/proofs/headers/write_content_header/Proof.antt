@@ -11,7 +11,7 @@ use Rattle.table_writer.specs.Emitting.{Emitted}
 use Rattle.table_writer.proofs.EmitLaws.{number-emitted, emitted-length}
 use Rattle.method.specs.Fields.{Field}
 use Rattle.method.specs.Properties.{select, flagsOf}
-use Rattle.method.specs.Pooled.{writeHeaderPooled}
+use Rattle.method.specs.Pooled.{writeHeader}
 use Rattle.method.specs.Words.{widths, headerFrom}
 use Rattle.method.specs.Layout.{fieldOf}
 use Rattle.method.specs.AnswerOf.{headerOf}
@@ -56,7 +56,7 @@ head c = ((number.octets 2 (head-words c .class) ++ number.octets 2 0) ++ number
 whole : (c : tie.After-size-fields)
     → let a = start c .args in
     behind errata (a .pool .now) (a .tape .now) (fields c) (words c) (head c) (a .at) (a .out .now)
-    ≡ writeHeaderPooled errata (a .pool .now) (a .tape .now) (headerOf (start c .args .header)) (a .at) (a .out .now)
+    ≡ writeHeader errata (a .pool .now) (a .tape .now) (headerOf (start c .args .header)) (a .at) (a .out .now)
 whole c =
     let a = start c .args in
     let p = back (c .before .before .before .before .before) in
