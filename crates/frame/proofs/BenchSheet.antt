@@ -15,11 +15,12 @@ use Rattle.tables.specs.Tape.{flatten, unflatten}
 use Rattle.tables.specs.Writing.{body, judgeRecord, judgeWithFuel, judgeRecords, judgeLoneValue, tapeMeaning, writeLoneValue}
 use Rattle.method.specs.Commands.{commands, fieldsOf}
 use Rattle.method.specs.Properties.{properties, select}
-use Rattle.method.specs.Writing.{placed, fieldOctets, commandOctets, headerOctets, judgeLengths}
+use Rattle.method.specs.Writing.{fieldOctets, commandOctets, headerOctets, judgeLengths}
 use Rattle.frame.specs.Frame.{frameAt, decodeAt, frameOctets}
 use Rattle.frame.specs.Step as step
 use Rattle.frame.specs.Step.{frameWithPayloadAt, stepAt}
 use Rattle.method.specs.Pooled.{pooledMeanings, judgeArgs, writeHeader}
+use Rattle.method.specs.Kinds.Bits.{octetOf}
 use Rattle.frame.specs.Writing.{framePayloadOctets}
 use Rattle.frame.specs.Bench.{ack, persistent, loginOf, BenchSheet}
 
@@ -36,7 +37,7 @@ unfolding fieldOctets commandOctets commands fieldsOf loginOf octets-15
 second-15 = refl
 
 pub bench-sheet : BenchSheet
-unfolding pooledMeanings character faultFrom fault utf8 numberAt uintAt spanAt longStrAt shortStrAt splice writeAt firstRecords kindOf size meaningOf leafAt nameAt entriesWithFuel entriesAt containerAt payloadAt valueWith valueAt tableAt loneValueAt flatten unflatten body judgeRecord judgeWithFuel judgeRecords judgeLoneValue tapeMeaning writeLoneValue commands fieldsOf properties select placed fieldOctets commandOctets headerOctets judgeArgs judgeLengths writeHeader writeShortStr frameAt decodeAt frameOctets step.payloadAt frameWithPayloadAt stepAt framePayloadOctets ack persistent loginOf
+unfolding pooledMeanings character faultFrom fault utf8 numberAt uintAt spanAt longStrAt shortStrAt splice writeAt firstRecords kindOf size meaningOf leafAt nameAt entriesWithFuel entriesAt containerAt payloadAt valueWith valueAt tableAt loneValueAt flatten unflatten body judgeRecord judgeWithFuel judgeRecords judgeLoneValue tapeMeaning writeLoneValue commands fieldsOf properties select octetOf fieldOctets commandOctets headerOctets judgeArgs judgeLengths writeHeader writeShortStr frameAt decodeAt frameOctets step.payloadAt frameWithPayloadAt stepAt framePayloadOctets ack persistent loginOf
 bench-sheet =
     record {
       line-1 = refl;

@@ -37,7 +37,7 @@ tapeOf letter n = letter ∷ 0 ∷ 0 ∷ n ∷ 0 ∷ 0 ∷ []
 -- Ack 5, multiple, channel 1
 unfoldable pub ack : SentFrame
 unfolding commands fieldsOf
-ack = record { channel = 1; payload = command (call 60 80 (5, ((true ∷ []), tt))); pool = []; tape = [] }
+ack = record { channel = 1; payload = command (call 60 80 (5, ((true, tt), tt))); pool = []; tape = [] }
 
 -- delivery-mode 2 alone
 unfoldable pub persistent : Header Pooled

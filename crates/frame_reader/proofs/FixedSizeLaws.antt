@@ -22,7 +22,8 @@ use Rattle.tables.specs.Letters.{errata}
 use Rattle.tables.specs.Tape.{roomOf, recordsOnly}
 use Rattle.method.specs.Fields.{Field, fixed, arg, bits, Located, Args}
 use Rattle.method.specs.Commands.{known, fieldsOf}
-use Rattle.method.specs.Reading.{same, flagsIn, argAt, fixedAt, fieldsAt, tapeOf, commandAt, readCommand}
+use Rattle.method.specs.Reading.{same, argAt, fixedAt, fieldsAt, tapeOf, commandAt, readCommand}
+use Rattle.method.specs.Kinds.Bits.{Flags, flagsIn}
 use Rattle.frame.specs.Frame.{Frame, decodeAt, isFrameType}
 use Rattle.frame.proofs.FrameLaws.{decode-given}
 use Rattle.frame_reader.specs.FixedSize.{FixedFields, none, zero, flag, flags, number, SizeOf, FixedFrame}
@@ -38,11 +39,11 @@ record ReadToEnd (fs : List Field) (s : List ℕ) (p room : ℕ) : Type 0 where
 
 -- The last octet
 
-one-flag : (n : ℕ) → n ≤ 1 → flagsIn (true ∷ []) n ≡ some (eqb (n % 2) 1 ∷ [])
+one-flag : (n : ℕ) → n ≤ 1 → flagsIn (true ∷ []) n ≡ some (eqb (n % 2) 1, tt)
 unfolding flagsIn
 one-flag n h = let z : n / 2 ≡ 0 = omega arith in rw z
 
-two-flags : (n : ℕ) → n ≤ 3 → flagsIn (true ∷ true ∷ []) n ≡ some (eqb (n % 2) 1 ∷ eqb (n / 2 % 2) 1 ∷ [])
+two-flags : (n : ℕ) → n ≤ 3 → flagsIn (true ∷ true ∷ []) n ≡ some (eqb (n % 2) 1, (eqb (n / 2 % 2) 1, tt))
 unfolding flagsIn
 two-flags n h = let z : n / 2 / 2 ≡ 0 = omega arith in rw z
 
@@ -51,7 +52,7 @@ module _ (s : List ℕ) (p room : ℕ) (end : p + 1 ≡ length s) where
   unfolding fieldsAt tapeOf fixedAt same
   zero-read z = record { args = tt; read = rw (span-here 1 s p (omega arith), drop-cons s p 0 (omega arith), z) (ap (given tt) end); empty = refl }
 
-  flags-read : (places found : List Bool) → flagsIn places (getD s p 0) ≡ some found → ReadToEnd (arg (bits places) ∷ []) s p room
+  flags-read : (places : List Bool) (found : Flags places) → flagsIn places (getD s p 0) ≡ some found → ReadToEnd (arg (bits places) ∷ []) s p room
   unfolding fieldsAt tapeOf argAt numberAt
   flags-read places found f =
       let here : getD s (p + 0) 0 ≡ getD s p 0 = ap (λ (i : ℕ). getD s i 0) (omega arith) in

@@ -1,43 +1,22 @@
 -- Where the readers of fields, commands and content headers end, and that their tape records are in the room.
 use mathlib.Core.Path.{_≡_}
-use mathlib.Core.Option.{Option, none, some}
 use mathlib.Core.List.{List, [], _∷_}
 use Prim.Native.Nat.{ℕ, _+_, _-_, _/_, _≤_}
 use native.Mathlib.Omega.{arith}
 use lib.ListN.{length, length-append}
 use lib.Dec.{leb}
-use Rattle.utf8.specs.Utf8.{utf8}
 use Rattle.types.specs.Answer.{given}
 use Rattle.types.specs.Octets.{uintAt}
-use Rattle.types.specs.Strings.{octetsOf, spanAt, longStrAt}
-use Rattle.types.specs.declared.Span.{Span}
+use Rattle.types.specs.Strings.{octetsOf, spanAt}
 use Rattle.types.proofs.Chain.{then-go, need-given, given-next, given-value}
-use Rattle.types.proofs.RoundTrip.{number-move, span-move, long-move, short-move}
+use Rattle.types.proofs.RoundTrip.{number-move, span-move}
 use Rattle.tables.specs.Letters.{Letters}
-use Rattle.tables.specs.Reading.{tableAt}
-use Rattle.tables.proofs.ReadingLaws.{table-move}
-use Rattle.tables.proofs.TapeLaws.{length-flatten}
-use Rattle.method.specs.Fields.{Kind, number, shortStr, bits, login, table, Field, fixed, arg, Login, Located, Args}
+use Rattle.method.specs.Fields.{Kind, Field, fixed, arg, Located, Args}
 use Rattle.method.specs.Commands.{known, fieldsOf, Command}
 use Rattle.method.specs.Properties.{properties, select, flagsOf, Header}
-use Rattle.method.specs.Reading.{same, flagsIn, writtenAt, userLength, loginSpans, loginIn, argAt, argTape, tapeOf, fixedAt, fieldsAt, commandAt, headerAt, commandWithTape, headerWithTape}
-
--- from p to q within the octets, with k records in the room
-pub record Within (s : List ℕ) (p room q k : ℕ) : Type 0 where
-  pub far : p ≤ q
-  pub inside : q ≤ length s
-  pub fits : k ≤ room
-
-written-next : {A : Type 0} (p : ℕ) (o : Option A) (q : ℕ) (a : A) (n : ℕ) → writtenAt p o q ≡ given a n → q ≡ n
-written-next p none q a n e = let z : _≡_ {A = ℕ} 0 1 = cc in absurd (omega arith)
-written-next p (some x) q a n e = given-next x a q n e
-
-login-next : (s : List ℕ) (p : ℕ) (v : Span) (o : Option ℕ) (q : ℕ) (a : Login Span) (n : ℕ) → loginIn s p v o q ≡ given a n → q ≡ n
-login-next s p v none q a n e = let z : _≡_ {A = ℕ} 0 1 = cc in absurd (omega arith)
-login-next s p v (some m) q a n e =
-    let b = need-given (utf8 (octetsOf s (loginSpans v m .user))) _ _ a n e in
-    let c = need-given (utf8 (octetsOf s (loginSpans v m .password))) _ _ a n (b .1) in
-    given-next (loginSpans v m) a q n (c .1)
+use Rattle.method.specs.Reading.{same, argAt, argTape, tapeOf, fixedAt, fieldsAt, commandAt, headerAt, commandWithTape, headerWithTape}
+use Rattle.method.proofs.Kind.{Within}
+use Rattle.method.proofs.KindLaws.{laws}
 
 fixed-move : (xs s : List ℕ) (p : ℕ) (x : Unit {0}) (q : ℕ) → fixedAt xs s p ≡ given x q → (q ≡ p + length xs) × (q ≤ length s)
 unfolding fixedAt
@@ -52,31 +31,7 @@ fixed-move xs s p x q e =
 module _ (letters : Letters) where
   pub arg-within : (k : Kind) (s : List ℕ) (p room : ℕ) (v : Located k) (q : ℕ) → argAt letters k s p room ≡ given v q → Within s p room q (length (argTape k v))
   unfolding argAt
-  arg-within (number k) s p room v q e =
-      let a = number-move k s p v q e in
-      record { far = omega (arith, a .0); inside = a .1; fits = omega arith }
-  arg-within shortStr s p room v q e =
-      let a = short-move s p v q e in
-      record { far = omega (arith, a .0); inside = a .1; fits = omega arith }
-  arg-within (bits places) s p room v q e =
-      then-go (uintAt 1 s p) _ v q e
-      (λ n r e1 h1.
-      let a = number-move 1 s p n r e1 in
-      let m = written-next p (flagsIn places n) r v q h1 in
-      record { far = omega (arith, a .0); inside = omega (arith, a .1); fits = omega arith })
-  arg-within login s p room v q e =
-      then-go (longStrAt s p) _ v q e
-      (λ x r e1 h1.
-      let a = long-move s p x r e1 in
-      let m = login-next s p x (userLength (octetsOf s x)) r v q h1 in
-      record { far = omega (arith, a .0); inside = omega (arith, a .1); fits = omega arith })
-  arg-within table s p room v q e =
-      then-go (tableAt letters s p room) _ v q e
-      (λ t r e1 h1.
-      let a = table-move letters s p room t r e1 in
-      let m = given-next (record { start = p; entries = t }) v r q h1 in
-      let w = given-value (record { start = p; entries = t }) v r q h1 in
-      rw (← w) (record { far = omega (arith, a .far); inside = omega (arith, a .inside); fits = omega (arith, a .fits, length-flatten t) }))
+  arg-within k s p room v q e = laws letters k .within s p room v q e
 
   pub fields-within : (fs : List Field) (s : List ℕ) (p room : ℕ) (vs : Args Located fs) (q : ℕ) → p ≤ length s → fieldsAt letters fs s p room ≡ given vs q
       → Within s p room q (length (tapeOf fs vs))

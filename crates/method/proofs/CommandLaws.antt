@@ -21,16 +21,18 @@ use Rattle.method.specs.Commands.{known, fieldsOf, Command, call}
 use Rattle.method.specs.Properties.{properties, select, flagsNumber, Header, header}
 use Rattle.method.specs.Writing.{values, valuesIn, commandValues, headerValues, argOctets, fieldOctets, commandOctets, headerOctets, TypedCommand, TypedHeader, NoNulCommand}
 use Rattle.method.specs.Pooled.{commandRefusal, headerRefusal, pooledCommandMeaning, pooledHeaderMeaning}
-use Rattle.method.specs.Reading.{same, flagsIn, argTape, fixedAt, fieldsAt, commandAt, headerAt, commandWithTape, headerWithTape, commandMeaning, headerMeaning}
-use Rattle.method.proofs.FieldLaws.{Fits, place, arg-here, tape-size, same-refl, fields-here, fields-cut, fields-differ, flags-spare}
+use Rattle.method.specs.Reading.{same, argAt, argTape, fixedAt, fieldsAt, commandAt, headerAt, commandWithTape, headerWithTape, commandMeaning, headerMeaning}
+use Rattle.method.specs.Kinds.Bits.{flagsIn}
+use Rattle.method.proofs.FieldLaws.{Fits, same-refl, fields-here, fields-cut, fields-differ, flags-spare}
 use Rattle.method.proofs.MethodLaws.{FitCommand, FitHeader, placeCommand, placeHeader, command-here, header-here, command-meaning, header-meaning, command-fit, header-fit, flags-octets, flags-read}
+use Rattle.method.proofs.KindLaws.{laws}
 
 module _ (letters : Letters) where
   -- Fields that stand are passed over: what is refused behind them is refused of all
   pub fields-later : {s : List ℕ} {p : ℕ} (gs hs : List Field) (vs : Args Meaning gs) (room : ℕ) (r : Refusal) → Fits letters gs vs → valuesIn gs vs ≤ room
       → Stands s p (fieldOctets letters gs vs) → fieldsAt letters hs s (p + length (fieldOctets letters gs vs)) (room - valuesIn gs vs) ≡ refused r
       → fieldsAt letters (gs ++ hs) s p room ≡ refused r
-  unfolding fieldsAt fixedAt fieldOctets
+  unfolding fieldsAt fixedAt argAt fieldOctets
   fields-later {s} {p} [] hs vs room r f k h e = let z : room - 0 ≡ room = omega arith in rw (add-zero p, z) at e
   fields-later {s} {p} (fixed xs ∷ gs) hs vs room r f k h e =
       let a = stands-left xs (fieldOctets letters gs vs) h in
@@ -45,11 +47,11 @@ module _ (letters : Letters) where
       let c = argOctets letters k (vs .0) in
       let x = fieldOctets letters gs (vs .1) in
       let l : p + length c + length x ≡ p + length (c ++ x) = omega (arith, length-append c x) in
-      let n = tape-size letters k (vs .0) p in
-      let m : room - length (argTape k (place letters k p (vs .0))) - valuesIn gs (vs .1) ≡ room - (values k (vs .0) + valuesIn gs (vs .1)) = omega (arith, n) in
+      let n = laws letters k .tape-size (vs .0) p in
+      let m : room - length (argTape k (laws letters k .place p (vs .0))) - valuesIn gs (vs .1) ≡ room - (values k (vs .0) + valuesIn gs (vs .1)) = omega (arith, n) in
       rw (
-        arg-here letters k (vs .0) room (f .0) (omega arith) (stands-left c x h),
-        fields-later gs hs (vs .1) (room - length (argTape k (place letters k p (vs .0)))) r (f .1) (omega (arith, n)) (stands-right c x h) (rw (l, m) e),
+        laws letters k .here (vs .0) room (f .0) (omega arith) (stands-left c x h),
+        fields-later gs hs (vs .1) (room - length (argTape k (laws letters k .place p (vs .0)))) r (f .1) (omega (arith, n)) (stands-right c x h) (rw (l, m) e),
       )
 
   -- Commands

@@ -8,18 +8,19 @@ use native.Mathlib.Omega.{arith}
 use native.Mathlib.Nat.{mod-eq-of-lt, mod-eq-sub-mod, two-pow-succ}
 use native.Mathlib.Numerals.{add-one}
 use borrow.Author.Tests.{eqb-true, eqb-false}
-use lib.Dec.{eqb}
+use lib.Dec.{leb, eqb}
 use lib.ListN.{length, drop, getD, drop-of-length-le}
 use lib.Seq.{drop-cons}
 use Rattle.types.specs.Lookup.{Row, row, lookup}
 use Rattle.types.specs.Strings.{shortStr}
+use Rattle.tables.specs.Letters.{Letters}
 use Rattle.types.proofs.Tests.{decide, leb-yes, leb-no}
 use Rattle.types.proofs.Arms.{Rest, rest}
-use Rattle.method.specs.Fields as field
-use Rattle.method.specs.Fields.{number, bits, login, table, Field, fixed, arg}
+use Rattle.method.specs.Fields.{Field, fixed, arg}
 use Rattle.method.specs.Commands.{clientProperties, plain, enUS}
 use Rattle.method.specs.Properties.{select, flagsOf}
 use Rattle.method.specs.Layout.{zeros, kinds, fieldOf, fixedOctets}
+use Rattle.method.proofs.KindLaws.{laws}
 
 -- an arm of one kind: with a numeral for k the row computes
 pub code-arm : (c k : ℕ) → c / 16 ≡ k → fieldOf c ≡ lookup (fixed []) (kinds (c % 16)) k
@@ -56,17 +57,16 @@ looked-up P other (r ∷ rs) c o h = go (eqb c (r .octet)) (looked-up P other rs
     go true l = h .0
     go false l = l
 
--- Numbers and fixed fields have few octets
-abbrev pub Few : Field → Type 0
-Few (fixed xs) = length xs ≤ 40
-Few (arg (number k)) = k ≤ 8
-Few (arg field.shortStr) = Unit
-Few (arg (bits places)) = Unit
-Few (arg login) = Unit
-Few (arg table) = Unit
+-- Fixed fields have few octets, and the kinds of the others are sound
+abbrev pub Few : Letters → Field → Type 0
+Few letters (fixed xs) = length xs ≤ 40
+Few letters (arg k) = laws letters k .sound ≡ true
 
 abbrev widthRows : List (Row ℕ)
 widthRows = row 1 1 ∷ row 2 2 ∷ row 4 4 ∷ []
+
+abbrev placeRows : List (Row (List Bool))
+placeRows = row 1 (true ∷ []) ∷ row 2 (false ∷ true ∷ []) ∷ []
 
 abbrev textRows : List (Row (List ℕ))
 textRows = row 1 clientProperties ∷ row 2 (shortStr plain) ∷ row 3 (shortStr enUS) ∷ []
@@ -75,14 +75,24 @@ few-zeros : (k : ℕ) → length (zeros k) ≡ k
 few-zeros zero = refl
 few-zeros (suc k) = ap suc (few-zeros k)
 
-pub few-octets : (c : ℕ) → Few (fieldOf c)
+pub few-octets : (letters : Letters) (c : ℕ) → Few letters (fieldOf c)
 unfolding fieldOf
-few-octets c =
-    let small : All (λ (k : ℕ). k ≤ 8) widthRows = (omega arith, (omega arith, (omega arith, tt))) in
+few-octets letters c =
+    let small : All (λ (k : ℕ). leb k 8 ≡ true) widthRows = (refl, (refl, (refl, tt))) in
+    let few : All (λ (ps : List Bool). leb (length ps) 8 ≡ true) placeRows = (refl, (refl, tt)) in
     let short : All (λ (xs : List ℕ). length xs ≤ 40) textRows = (omega arith, (omega arith, (omega arith, tt))) in
-    looked-up Few (fixed []) (kinds (c % 16)) (c / 16) (omega arith) (
-      looked-up (λ k. k ≤ 8) 8 widthRows (c % 16) (omega arith) small,
-      (tt, (omega (arith, few-zeros (c % 16)), (tt, (looked-up (λ xs. length xs ≤ 40) [] textRows (c % 16) (omega arith) short, (tt, (tt, tt)))))),
+    looked-up (Few letters) (fixed []) (kinds (c % 16)) (c / 16) (omega arith) (
+      looked-up (λ k. leb k 8 ≡ true) 8 widthRows (c % 16) refl small,
+      (
+        refl,
+        (
+          omega (arith, few-zeros (c % 16)),
+          (
+            looked-up (λ ps. leb (length ps) 8 ≡ true) (true ∷ true ∷ []) placeRows (c % 16) refl few,
+            (looked-up (λ xs. length xs ≤ 40) [] textRows (c % 16) (omega arith) short, (refl, (refl, tt))),
+          ),
+        ),
+      ),
     )
 
 -- The fields fs of a layout that are left from place i on: a bit of the flags for each place, the first one highest of w, with its weight

@@ -1,7 +1,7 @@
 -- Commands and content headers that their writers accept are read back as they were written.
 use mathlib.Core.Path.{_≡_, refl, sym, ap, _∙_}
 use mathlib.Core.Bool.{Bool, true, false}
-use mathlib.Core.Option.{Option, none}
+use mathlib.Core.Option.{none}
 use mathlib.Core.List.{List, [], _∷_, _++_}
 use Prim.Native.Nat.{ℕ, zero, suc, _+_, _-_, _*_, _^_, _/_, _%_, _≤_, _<_}
 use native.Mathlib.Omega.{arith}
@@ -9,27 +9,23 @@ use native.Mathlib.Nat.{mod-eq-of-lt, two-pow-succ}
 use lib.ListN.{length}
 use lib.Dec.{leb}
 use lib.Arith.{digits-mod}
-use Rattle.utf8.specs.Utf8.{utf8}
-use Rattle.types.specs.Answer.{Refusal, given, truncated, notUtf8, tooLong}
+use Rattle.types.specs.Answer.{given}
 use Rattle.types.specs.Octets.{octets}
-use Rattle.types.specs.Strings.{octetsOf, judgeShortStr, judgeLength}
-use Rattle.types.specs.declared.Span.{Span}
-use Rattle.types.specs.Judgement.{test}
 use Rattle.types.proofs.Tests.{decide, leb-yes, leb-no, yes-leb, no-leb}
 use Rattle.types.proofs.Standing.{Stands, stands-left, stands-right}
-use Rattle.types.proofs.Chain.{test-none, orElse-none}
-use Rattle.types.proofs.RoundTrip.{number-here, short-fit}
+use Rattle.types.proofs.Chain.{orElse-none}
+use Rattle.types.proofs.RoundTrip.{number-here}
 use Rattle.tables.specs.Letters.{Letters}
-use Rattle.tables.specs.Writing.{inPool, body, tapeMeaning}
-use Rattle.tables.proofs.JudgeLaws.{Octets, and-true, table-fit}
-use Rattle.method.specs.Fields.{Kind, number, shortStr, bits, login, table, Field, fixed, arg, Meaning, Located, Pooled, Args}
+use Rattle.tables.proofs.JudgeLaws.{Octets, and-true}
+use Rattle.method.specs.Fields.{Field, fixed, arg, Meaning, Located, Pooled, Args}
 use Rattle.method.specs.Commands.{commands, known, fieldsOf, Command, call}
 use Rattle.method.specs.Properties.{properties, select, flagsNumber, flagsOf, Header, header}
-use Rattle.method.specs.Writing.{loginText, commandValues, headerValues, fieldOctets, commandOctets, headerOctets, judgeArgLength, judgeLengths, Typed, TypedAll, TypedCommand, TypedHeader, NoNulArg, NoNulArgs, NoNulCommand}
-use Rattle.method.specs.Pooled.{pooledMeaning, pooledMeanings, pooledCommandMeaning, pooledHeaderMeaning, judgeText, judgeArg, judgeArgs, refusalOf, commandRefusal, headerRefusal}
+use Rattle.method.specs.Writing.{commandValues, headerValues, fieldOctets, commandOctets, headerOctets, judgeArgLength, judgeLengths, TypedAll, TypedCommand, TypedHeader, NoNulArgs, NoNulCommand}
+use Rattle.method.specs.Pooled.{pooledMeaning, pooledMeanings, pooledCommandMeaning, pooledHeaderMeaning, judgeArg, judgeArgs, refusalOf, commandRefusal, headerRefusal}
 use Rattle.method.specs.Reading.{commandAt, headerAt, commandWithTape, headerWithTape, commandMeaning, headerMeaning}
 use Rattle.method.proofs.LayoutLaws.{every, every-command, select-every}
-use Rattle.method.proofs.FieldLaws.{Fit, Fits, placeAll, fields-here, tape-sizes, args-meaning}
+use Rattle.method.proofs.FieldLaws.{Fits, placeAll, fields-here, tape-sizes, args-meaning}
+use Rattle.method.proofs.KindLaws.{laws}
 
 -- Flags
 
@@ -73,56 +69,37 @@ flags-read ps e =
     let d : 8 * flagsNumber ps / 8 ≡ flagsNumber ps = omega arith in
     rw d (ap (λ (w : ℕ). flagsOf w (flagsNumber ps)) (sym e) ∙ flags-of ps)
 
--- Every bit octet of the tables has eight bits at most: one test over the tables
+module _ (letters : Letters) where
+  -- Every kind in the tables is sound: one test over the tables
 
-abbrev smallPlaces : Field → Bool
-smallPlaces (fixed xs) = true
-smallPlaces (arg (number k)) = true
-smallPlaces (arg shortStr) = true
-smallPlaces (arg (bits places)) = leb (length places) 8
-smallPlaces (arg login) = true
-smallPlaces (arg table) = true
+  abbrev sound : Field → Bool
+  sound (fixed xs) = true
+  sound (arg k) = laws letters k .sound
 
-abbrev Small : List Field → Type 0
-Small fs = every smallPlaces fs ≡ true
+  abbrev Sound : List Field → Type 0
+  Sound fs = every sound fs ≡ true
 
-commands-small : (c m : ℕ) → Small (fieldsOf c m)
-commands-small c m = every-command (every smallPlaces) c m refl (unfold commands in refl)
+  commands-sound : (c m : ℕ) → Sound (fieldsOf c m)
+  commands-sound c m = every-command (every sound) c m refl (unfold commands in refl)
 
-properties-small : (ps : List Bool) → Small (select ps properties)
-properties-small ps = select-every smallPlaces ps properties (unfold properties in refl)
+  properties-sound : (ps : List Bool) → Sound (select ps properties)
+  properties-sound ps = select-every sound ps properties (unfold properties in refl)
 
--- A content header has no login
+  -- A content header has no login
 
-abbrev noLogin : Field → Bool
-noLogin (fixed xs) = true
-noLogin (arg (number k)) = true
-noLogin (arg shortStr) = true
-noLogin (arg (bits places)) = true
-noLogin (arg login) = false
-noLogin (arg table) = true
+  abbrev noLogin : Field → Bool
+  noLogin (fixed xs) = true
+  noLogin (arg k) = laws letters k .noUser
 
-no-login-arg : (k : Kind) (v : Meaning k) → noLogin (arg k) ≡ true → NoNulArg k v
-no-login-arg (number k) v e = tt
-no-login-arg shortStr v e = tt
-no-login-arg (bits places) v e = tt
-no-login-arg login v e = let z : _≡_ {A = ℕ} 0 1 = cc in absurd (omega arith)
-no-login-arg table v e = tt
+  no-login-args : (fs : List Field) → every noLogin fs ≡ true → (vs : Args Meaning fs) → NoNulArgs fs vs
+  no-login-args [] e vs = tt
+  no-login-args (fixed xs ∷ fs) e vs = no-login-args fs e vs
+  no-login-args (arg k ∷ fs) e vs =
+      let a = and-true (noLogin (arg k)) (every noLogin fs) e in
+      (laws letters k .no-nul (a .0) (vs .0), no-login-args fs (a .1) (vs .1))
 
-no-login-args : (fs : List Field) → every noLogin fs ≡ true → (vs : Args Meaning fs) → NoNulArgs fs vs
-no-login-args [] e vs = tt
-no-login-args (fixed xs ∷ fs) e vs = no-login-args fs e vs
-no-login-args (arg k ∷ fs) e vs =
-    let a = and-true (noLogin (arg k)) (every noLogin fs) e in
-    (no-login-arg k (vs .0) (a .0), no-login-args fs (a .1) (vs .1))
-
-no-login : (ps : List Bool) (fs : List Field) → every noLogin fs ≡ true → (vs : Args Meaning (select ps fs)) → NoNulArgs (select ps fs) vs
-no-login ps fs e vs = no-login-args (select ps fs) (select-every noLogin ps fs e) vs
-
--- Arguments that pass fit
-
-length-fit : (n : ℕ) → judgeLength n ≡ none → n < 256 ^ 4
-length-fit n e = omega (arith, yes-leb n 4294967295 ((test-none (leb n 4294967295) tooLong none e) .0))
+  no-login : (ps : List Bool) (fs : List Field) → every noLogin fs ≡ true → (vs : Args Meaning (select ps fs)) → NoNulArgs (select ps fs) vs
+  no-login ps fs e vs = no-login-args (select ps fs) (select-every noLogin ps fs e) vs
 
 module _ (letters : Letters) where
   abbrev pub FitCommand : Command Meaning → Type 0
@@ -201,28 +178,10 @@ module _ (letters : Letters) where
       let g1 : Stands s (p + 2) (octets 2 0 ++ (octets 8 n ++ (F ++ w))) = stands-right (octets 2 c) (octets 2 0 ++ (octets 8 n ++ (F ++ w))) h in
       ap (header c n ps) (args-meaning letters (select ps properties) vs (f .3) (stands-right F w (stands-right (octets 8 n) (F ++ w) (stands-right (octets 2 0) (octets 8 n ++ (F ++ w)) g1))))
 
--- a span in the pool, then what is judged behind it
-span-passes : (pool : List ℕ) (v : Span) (more : Option Refusal) → test (inPool pool (v .start) (v .len)) truncated more ≡ none → more ≡ none
-span-passes pool v more e = (test-none (inPool pool (v .start) (v .len)) truncated more e) .1
-
-text-passes : (pool : List ℕ) (v : Span) (more : Option Refusal) → test (inPool pool (v .start) (v .len)) truncated (test (utf8 (octetsOf pool v)) notUtf8 more) ≡ none
-    → (utf8 (octetsOf pool v) ≡ true) × (more ≡ none)
-text-passes pool v more e = test-none (utf8 (octetsOf pool v)) notUtf8 more (span-passes pool v (test (utf8 (octetsOf pool v)) notUtf8 more) e)
+-- Arguments that pass fit
 
 module _ (letters : Letters) (octet : Octets letters) (pool tape : List ℕ) where
-  arg-fit : (k : Kind) (v : Pooled k) → Typed k v → smallPlaces (arg k) ≡ true → judgeArg letters pool tape k v ≡ none
-      → judgeArgLength letters k (pooledMeaning letters pool tape k v) ≡ none → NoNulArg k (pooledMeaning letters pool tape k v) → Fit letters k (pooledMeaning letters pool tape k v)
-  arg-fit (number k) v t b e l z = t
-  arg-fit shortStr v t b e l z = short-fit (octetsOf pool v) (span-passes pool v (judgeShortStr (octetsOf pool v)) e)
-  arg-fit (bits places) v t b e l z = (t, yes-leb (length places) 8 b)
-  arg-fit login v t b e l z =
-      let a = text-passes pool (v .user) (judgeText letters pool tape (v .password) none) e in
-      (a .0, (text-passes pool (v .password) none (a .1)) .0, z, length-fit (length (loginText (pooledMeaning letters pool tape login v))) l)
-  arg-fit table v t b e l z =
-      let n = length-fit (length (body letters true (tapeMeaning letters pool tape))) l in
-      (table-fit letters pool tape octet e n, n)
-
-  args-pass : (fs : List Field) (vs : Args Pooled fs) → Small fs → TypedAll fs vs → judgeArgs letters pool tape fs vs ≡ none
+  args-pass : (fs : List Field) (vs : Args Pooled fs) → Sound letters fs → TypedAll fs vs → judgeArgs letters pool tape fs vs ≡ none
       → judgeLengths letters fs (pooledMeanings letters pool tape fs vs) ≡ none → NoNulArgs fs (pooledMeanings letters pool tape fs vs)
       → Fits letters fs (pooledMeanings letters pool tape fs vs)
   unfolding judgeArgs judgeLengths pooledMeanings
@@ -231,10 +190,10 @@ module _ (letters : Letters) (octet : Octets letters) (pool tape : List ℕ) whe
   args-pass (arg k ∷ fs) vs b t e l z =
       let a = orElse-none (judgeArg letters pool tape k (vs .0)) (judgeArgs letters pool tape fs (vs .1)) e in
       let n = orElse-none (judgeArgLength letters k (pooledMeaning letters pool tape k (vs .0))) (judgeLengths letters fs (pooledMeanings letters pool tape fs (vs .1))) l in
-      let s = and-true (smallPlaces (arg k)) (every smallPlaces fs) b in
-      (arg-fit k (vs .0) (t .0) (s .0) (a .0) (n .0) (z .0), args-pass fs (vs .1) (s .1) (t .1) (a .1) (n .1) (z .1))
+      let s = and-true (sound letters (arg k)) (every (sound letters) fs) b in
+      (laws letters k .fit octet (s .0) pool tape (vs .0) (t .0) (a .0) (n .0) (z .0), args-pass fs (vs .1) (s .1) (t .1) (a .1) (n .1) (z .1))
 
-  args-fit : (fs : List Field) (vs : Args Pooled fs) → Small fs → TypedAll fs vs → refusalOf letters pool tape fs vs ≡ none → NoNulArgs fs (pooledMeanings letters pool tape fs vs)
+  args-fit : (fs : List Field) (vs : Args Pooled fs) → Sound letters fs → TypedAll fs vs → refusalOf letters pool tape fs vs ≡ none → NoNulArgs fs (pooledMeanings letters pool tape fs vs)
       → Fits letters fs (pooledMeanings letters pool tape fs vs)
   args-fit fs vs b t e z =
       let a = orElse-none (judgeArgs letters pool tape fs vs) (judgeLengths letters fs (pooledMeanings letters pool tape fs vs)) e in
@@ -243,9 +202,9 @@ module _ (letters : Letters) (octet : Octets letters) (pool tape : List ℕ) whe
   pub command-fit : (x : Command Pooled) → TypedCommand x → commandRefusal letters pool tape x ≡ none → NoNulCommand (pooledCommandMeaning letters pool tape x)
       → FitCommand letters (pooledCommandMeaning letters pool tape x)
   unfolding TypedCommand NoNulCommand
-  command-fit (call c m vs) t e z = (t .0, t .1, t .2, args-fit (fieldsOf c m) vs (commands-small c m) (t .3) e z)
+  command-fit (call c m vs) t e z = (t .0, t .1, t .2, args-fit (fieldsOf c m) vs (commands-sound letters c m) (t .3) e z)
 
   pub header-fit : (x : Header Pooled) → TypedHeader x → headerRefusal letters pool tape x ≡ none → FitHeader letters (pooledHeaderMeaning letters pool tape x)
   unfolding TypedHeader
   header-fit (header c n ps vs) t e =
-      (t .0, t .1, t .2, args-fit (select ps properties) vs (properties-small ps) (t .3) e (no-login ps properties (unfold properties in refl) (pooledMeanings letters pool tape (select ps properties) vs)))
+      (t .0, t .1, t .2, args-fit (select ps properties) vs (properties-sound letters ps) (t .3) e (no-login letters ps properties (unfold properties in refl) (pooledMeanings letters pool tape (select ps properties) vs)))

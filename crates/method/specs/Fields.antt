@@ -2,9 +2,12 @@
 use mathlib.Core.Bool.{Bool}
 use mathlib.Core.List.{List, [], _∷_}
 use Prim.Native.Nat.{ℕ}
-use Rattle.types.specs.Strings.{octetsOf}
-use Rattle.types.specs.declared.Span.{Span}
-use Rattle.tables.specs.Forest.{TableMeaning, LocatedTable}
+use Rattle.method.specs.Kinds.{FieldKind}
+use Rattle.method.specs.Kinds.Number.{numberKind}
+use Rattle.method.specs.Kinds.ShortStr.{shortStrKind}
+use Rattle.method.specs.Kinds.Bits.{bitsKind}
+use Rattle.method.specs.Kinds.Login.{loginKind}
+use Rattle.method.specs.Kinds.Table.{tableKind}
 
 pub data Kind : Type 0 where
   -- so many octets
@@ -12,57 +15,30 @@ pub data Kind : Type 0 where
   shortStr : Kind
   -- one octet, lowest bit first: true where an argument stands
   bits : List Bool → Kind
-  -- a long string NUL user NUL password: RFC 4616
   login : Kind
   table : Kind
+
+abbrev pub kind : Kind → FieldKind
+kind (number k) = numberKind k
+kind shortStr = shortStrKind
+kind (bits places) = bitsKind places
+kind login = loginKind
+kind table = tableKind
 
 pub data Field : Type 0 where
   fixed : List ℕ → Field
   arg : Kind → Field
 
-pub record Login (A : Type 0) : Type 0 where
-  pub user : A
-  pub password : A
-
--- The meaning of an argument
+-- The forms of an argument
 
 abbrev pub Meaning : Kind → Type 0
-Meaning (number k) = ℕ
-Meaning shortStr = List ℕ
-Meaning (bits places) = List Bool
-Meaning login = Login (List ℕ)
-Meaning table = TableMeaning
-
--- as it is located in octets, a table by its first octet and its entries
-
-pub record TableIn : Type 0 where
-  pub start : ℕ
-  pub entries : LocatedTable
+Meaning k = kind k .Meaning
 
 abbrev pub Located : Kind → Type 0
-Located (number k) = ℕ
-Located shortStr = Span
-Located (bits places) = List Bool
-Located login = Login Span
-Located table = TableIn
-
--- and over a pool, as a reader returns it and a writer takes it: a string as a span; of a table, which is on the tape, the number of its records
+Located k = kind k .Located
 
 abbrev pub Pooled : Kind → Type 0
-Pooled (number k) = ℕ
-Pooled shortStr = Span
-Pooled (bits places) = List Bool
-Pooled login = Login Span
-Pooled table = ℕ
-
--- What a pooled argument means, where its table means t
-
-abbrev pub meaning : List ℕ → TableMeaning → (k : Kind) → Pooled k → Meaning k
-meaning pool t (number k) n = n
-meaning pool t shortStr v = octetsOf pool v
-meaning pool t (bits places) flags = flags
-meaning pool t login x = record { user = octetsOf pool (x .user); password = octetsOf pool (x .password) }
-meaning pool t table n = t
+Pooled k = kind k .Pooled
 
 -- one for each argument of some fields
 abbrev pub Args : (Kind → Type 0) → List Field → Type 0

@@ -1,4 +1,5 @@
 -- The specification of commands and content headers.
+pub mod Kinds
 pub mod Fields
 pub mod Commands
 pub mod Properties

@@ -4,16 +4,13 @@
 use mathlib.Core.Option.{Option, none}
 use mathlib.Core.List.{List}
 use Prim.Native.Nat.{ℕ}
-use Rattle.utf8.specs.Utf8.{utf8}
-use Rattle.types.specs.Answer.{Refusal, truncated, notUtf8}
-use Rattle.types.specs.Strings.{octetsOf, judgeShortStr}
-use Rattle.types.specs.Judgement.{test, orElse}
+use Rattle.types.specs.Answer.{Refusal}
+use Rattle.types.specs.Judgement.{orElse}
 use Rattle.types.specs.Memory.{Outcome}
 use Rattle.writers.specs.Writers.{writeAt}
-use Rattle.types.specs.declared.Span.{Span}
 use Rattle.tables.specs.Letters.{Letters}
-use Rattle.tables.specs.Writing.{inPool, judgeTable, tapeMeaning}
-use Rattle.method.specs.Fields.{Kind, number, shortStr, bits, login, table, Field, Meaning, Pooled, meaning, Args, mapArgs, foldArgs}
+use Rattle.tables.specs.Writing.{tapeMeaning}
+use Rattle.method.specs.Fields.{Kind, kind, Field, Meaning, Pooled, Args, mapArgs, foldArgs}
 use Rattle.method.specs.Commands.{fieldsOf, Command, call}
 use Rattle.method.specs.Properties.{properties, select, Header, header}
 use Rattle.method.specs.Writing.{commandOctets, headerOctets, judgeLengths}
@@ -22,7 +19,7 @@ module _ (letters : Letters) (pool tape : List ℕ) where
   -- What it means: a writer takes the whole tape given
 
   abbrev pub pooledMeaning : (k : Kind) → Pooled k → Meaning k
-  pooledMeaning = meaning pool (tapeMeaning letters pool tape)
+  pooledMeaning k v = kind k .meaning pool (tapeMeaning letters pool tape) v
 
   unfoldable pub pooledMeanings : (fs : List Field) → Args Pooled fs → Args Meaning fs
   pooledMeanings fs vs = mapArgs pooledMeaning fs vs
@@ -35,19 +32,8 @@ module _ (letters : Letters) (pool tape : List ℕ) where
 
   -- What is refused
 
-  -- first the span, then what stands in it; each string wholly before the next
-  abbrev pub judgeSpan : Span → Option Refusal → Option Refusal
-  judgeSpan v more = test (inPool pool (v .start) (v .len)) truncated more
-
-  abbrev pub judgeText : Span → Option Refusal → Option Refusal
-  judgeText v more = judgeSpan v (test (utf8 (octetsOf pool v)) notUtf8 more)
-
   abbrev pub judgeArg : (k : Kind) → Pooled k → Option Refusal
-  judgeArg (number k) n = none
-  judgeArg shortStr v = judgeSpan v (judgeShortStr (octetsOf pool v))
-  judgeArg (bits places) flags = none
-  judgeArg login x = judgeText (x .user) (judgeText (x .password) none)
-  judgeArg table n = judgeTable letters pool tape
+  judgeArg k v = kind k .judge letters pool tape v
 
   -- in wire order
   unfoldable pub judgeArgs : (fs : List Field) → Args Pooled fs → Option Refusal

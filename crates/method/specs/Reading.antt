@@ -1,21 +1,17 @@
 -- The command reader and the content header reader: document 01, "method.rs". A reader is given the octets up to the payload's end.
 use mathlib.Core.Bool.{Bool, true, false, cond}
-use mathlib.Core.Option.{Option, none, some}
 use mathlib.Core.List.{List, [], _∷_, _++_}
-use Prim.Native.Nat.{ℕ, suc, _+_, _-_, _/_, _%_}
+use Prim.Native.Nat.{ℕ, _-_, _/_}
 use lib.ListN.{length, take, drop}
 use lib.Dec.{leb, eqb}
-use Rattle.utf8.specs.Utf8.{utf8}
-use Rattle.types.specs.Answer.{Answer, given, refused, notUtf8, notWritten, unknownMethod, andThen, need}
+use Rattle.types.specs.Answer.{Answer, given, notWritten, unknownMethod, andThen, need}
 use Rattle.types.specs.Octets.{uintAt}
-use Rattle.types.specs.Strings.{octetsOf, spanAt, longStrAt, shortStrAt}
-use Rattle.types.specs.declared.Span.{Span}
+use Rattle.types.specs.Strings.{octetsOf, spanAt}
 use Rattle.tables.specs.Letters.{Letters}
-use Rattle.tables.specs.Forest.{size, meaningOf}
-use Rattle.tables.specs.Reading.{tableAt}
+use Rattle.tables.specs.Forest.{meaningOf}
 use Rattle.types.specs.Memory.{Outcome}
-use Rattle.tables.specs.Tape.{Record, flatten, forestOf, WithTape, WithCount, roomOf, fillTape}
-use Rattle.method.specs.Fields.{Kind, number, shortStr, bits, login, table, Field, fixed, arg, Login, Meaning, Located, Pooled, meaning, Args, mapArgs, foldArgs}
+use Rattle.tables.specs.Tape.{Record, forestOf, WithTape, WithCount, roomOf, fillTape}
+use Rattle.method.specs.Fields.{Kind, kind, Field, fixed, arg, Meaning, Located, Pooled, Args, mapArgs, foldArgs}
 use Rattle.method.specs.Commands.{known, fieldsOf, Command, call}
 use Rattle.method.specs.Properties.{properties, select, flagsOf, Header, header}
 
@@ -26,64 +22,12 @@ same [] (y ∷ ys) = false
 same (x ∷ xs) [] = false
 same (x ∷ xs) (y ∷ ys) = cond (eqb x y) (same xs ys) false
 
--- the flags of a bit octet n in the places of the arguments; none if a bit without an argument is set
-abbrev pub withFlag : Bool → Option (List Bool) → Option (List Bool)
-withFlag f none = none
-withFlag f (some flags) = some (f ∷ flags)
-
-unfoldable pub flagsIn : List Bool → ℕ → Option (List Bool)
-flagsIn [] n = cond (eqb n 0) (some []) none
-flagsIn (false ∷ places) n = cond (eqb (n % 2) 1) none (flagsIn places (n / 2))
-flagsIn (true ∷ places) n = withFlag (eqb (n % 2) 1) (flagsIn places (n / 2))
-
--- a field at p whose value is none is NotWritten there
-abbrev pub writtenAt : {A : Type 0} → ℕ → Option A → ℕ → Answer A
-writtenAt p none q = refused (notWritten p)
-writtenAt p (some a) q = given a q
-
--- the place of the first NUL
-abbrev pub oneMore : Option ℕ → Option ℕ
-oneMore none = none
-oneMore (some n) = some (suc n)
-
-unfoldable pub untilNul : List ℕ → Option ℕ
-untilNul [] = none
-untilNul (x ∷ xs) = cond (eqb x 0) (some 0) (oneMore (untilNul xs))
-
--- the length of the user in a login string: a NUL, the user up to the next NUL, the password
-abbrev pub userLength : List ℕ → Option ℕ
-userLength [] = none
-userLength (x ∷ xs) = cond (eqb x 0) (untilNul xs) none
-
-abbrev pub loginSpans : Span → ℕ → Login Span
-loginSpans v m =
-    record {
-      user = record { start = v .start + 1; len = m };
-      password = record { start = v .start + m + 2; len = v .len - (m + 2) };
-    }
-
-abbrev pub loginUtf8 : List ℕ → Login Span → ℕ → Answer (Login Span)
-loginUtf8 s x q = need (utf8 (octetsOf s (x .user))) notUtf8 (need (utf8 (octetsOf s (x .password))) notUtf8 (given x q))
-
--- first NotWritten at its length field p, then NotUtf8
-abbrev pub loginIn : List ℕ → ℕ → Span → Option ℕ → ℕ → Answer (Login Span)
-loginIn s p v none q = refused (notWritten p)
-loginIn s p v (some m) q = loginUtf8 s (loginSpans v m) q
-
 unfoldable pub argAt : Letters → (k : Kind) → List ℕ → ℕ → ℕ → Answer (Located k)
-argAt letters (number k) s p room = uintAt k s p
-argAt letters shortStr s p room = shortStrAt s p
-argAt letters (bits places) s p room = andThen (uintAt 1 s p) (λ n q. writtenAt p (flagsIn places n) q)
-argAt letters login s p room = andThen (longStrAt s p) (λ v q. loginIn s p v (userLength (octetsOf s v)) q)
-argAt letters table s p room = andThen (tableAt letters s p room) (λ t q. given (record { start = p; entries = t }) q)
+argAt letters k s p room = kind k .at letters s p room
 
 -- the tape records of what is located
 abbrev pub argTape : (k : Kind) → Located k → List Record
-argTape (number k) n = []
-argTape shortStr x = []
-argTape (bits places) flags = []
-argTape login x = []
-argTape table t = flatten (t .entries)
+argTape k v = kind k .tape v
 
 unfoldable pub tapeOf : (fs : List Field) → Args Located fs → List Record
 tapeOf fs vs = foldArgs _++_ [] argTape fs vs
@@ -127,11 +71,7 @@ headerAt letters s p room = andThen (uintAt 2 s p) (λ c q. andThen (uintAt 2 s 
 -- What is returned of what is located, with its tape records
 
 abbrev pub pooledArg : (k : Kind) → Located k → Pooled k
-pooledArg (number k) n = n
-pooledArg shortStr x = x
-pooledArg (bits places) flags = flags
-pooledArg login x = x
-pooledArg table t = size (t .entries)
+pooledArg k v = kind k .pooled v
 
 unfoldable pub pooledArgs : (fs : List Field) → Args Located fs → Args Pooled fs
 pooledArgs fs vs = mapArgs pooledArg fs vs
@@ -156,14 +96,10 @@ readHeader letters s at used tape =
 -- The meaning of what is returned, over the octets and its tape records, the first n of which are a table's
 
 abbrev pub used : (k : Kind) → Pooled k → ℕ
-used (number k) n = 0
-used shortStr x = 0
-used (bits places) flags = 0
-used login x = 0
-used table n = n
+used k v = kind k .used v
 
 abbrev pub argMeaning : Letters → (k : Kind) → List ℕ → Pooled k → List Record → Meaning k
-argMeaning letters k s v rs = meaning s (meaningOf letters s (forestOf (take (used k v) rs))) k v
+argMeaning letters k s v rs = kind k .meaning s (meaningOf letters s (forestOf (take (used k v) rs))) v
 
 unfoldable pub argsMeaning : Letters → (fs : List Field) → List ℕ → Args Pooled fs → List Record → Args Meaning fs
 argsMeaning letters [] s vs rs = tt

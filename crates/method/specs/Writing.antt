@@ -1,47 +1,23 @@
 -- What is written of fields (document 01, "method.rs").
 use mathlib.Core.Path.{_≡_}
-use mathlib.Core.Bool.{Bool, true, false}
+use mathlib.Core.Bool.{true}
 use mathlib.Core.Option.{Option, none}
 use mathlib.Core.List.{List, [], _∷_, _++_}
-use Prim.Native.Nat.{ℕ, suc, _+_, _*_, _^_, _<_}
+use Prim.Native.Nat.{ℕ, _+_, _*_, _^_, _<_}
 use lib.ListN.{length}
-use lib.Dec.{eqb}
 use Rattle.types.specs.Answer.{Refusal}
 use Rattle.types.specs.Octets.{octets}
-use Rattle.types.specs.Strings as string
-use Rattle.types.specs.Strings.{longStr, judgeLength}
-use Rattle.bits.specs.Flags.{packBits}
+use Rattle.types.specs.Strings.{judgeLength}
 use Rattle.types.specs.Judgement.{orElse}
 use Rattle.tables.specs.Letters.{Letters}
-use Rattle.tables.specs.Forest.{size}
-use Rattle.tables.specs.Writing.{body, tableOctets}
-use Rattle.method.specs.Fields.{Kind, number, shortStr, bits, login, table, Field, fixed, arg, Login, Meaning, Pooled, Args, foldArgs, AllArgs}
+use Rattle.method.specs.Fields.{Kind, kind, Field, fixed, arg, Meaning, Pooled, Args, foldArgs, AllArgs}
 use Rattle.method.specs.Commands.{known, fieldsOf, Command, call}
 use Rattle.method.specs.Properties.{properties, select, flagsNumber, Header, header}
-
--- the flags in the places of the arguments, 0 in the others
-unfoldable pub placed : List Bool → List Bool → List Bool
-placed [] flags = []
-placed (false ∷ places) flags = false ∷ placed places flags
-placed (true ∷ places) [] = false ∷ placed places []
-placed (true ∷ places) (f ∷ flags) = f ∷ placed places flags
-
-abbrev pub howMany : List Bool → ℕ
-howMany [] = 0
-howMany (false ∷ places) = howMany places
-howMany (true ∷ places) = suc (howMany places)
-
-abbrev pub loginText : Login (List ℕ) → List ℕ
-loginText x = 0 ∷ (x .user ++ (0 ∷ x .password))
 
 -- How many values, at any depth, are in its tables
 
 abbrev pub values : (k : Kind) → Meaning k → ℕ
-values (number k) n = 0
-values shortStr xs = 0
-values (bits places) flags = 0
-values login x = 0
-values table t = size t
+values k v = kind k .values v
 
 abbrev pub valuesIn : (fs : List Field) → Args Meaning fs → ℕ
 valuesIn fs vs = foldArgs _+_ 0 values fs vs
@@ -55,11 +31,7 @@ headerValues (header c n present vs) = valuesIn (select present properties) vs
 -- Its octets
 
 abbrev pub argOctets : Letters → (k : Kind) → Meaning k → List ℕ
-argOctets letters (number k) n = octets k n
-argOctets letters shortStr xs = string.shortStr xs
-argOctets letters (bits places) flags = octets 1 (packBits (placed places flags))
-argOctets letters login x = longStr (loginText x)
-argOctets letters table t = tableOctets letters t
+argOctets letters k v = kind k .octets letters v
 
 unfoldable pub fieldOctets : Letters → (fs : List Field) → Args Meaning fs → List ℕ
 fieldOctets letters [] vs = []
@@ -77,11 +49,7 @@ headerOctets letters (header c n present vs) =
 -- What is refused of the length fields of four octets
 
 abbrev pub judgeArgLength : Letters → (k : Kind) → Meaning k → Option Refusal
-judgeArgLength letters (number k) n = none
-judgeArgLength letters shortStr xs = none
-judgeArgLength letters (bits places) flags = none
-judgeArgLength letters login x = judgeLength (length (loginText x))
-judgeArgLength letters table t = judgeLength (length (body letters true t))
+judgeArgLength letters k v = kind k .judgeLength letters v
 
 unfoldable pub judgeLengths : Letters → (fs : List Field) → Args Meaning fs → Option Refusal
 judgeLengths letters fs vs = foldArgs orElse none (judgeArgLength letters) fs vs
@@ -89,11 +57,7 @@ judgeLengths letters fs vs = foldArgs orElse none (judgeArgLength letters) fs vs
 -- The ranges that the writers' parameter types have
 
 abbrev pub Typed : (k : Kind) → Pooled k → Type 0
-Typed (number k) n = n < 256 ^ k
-Typed shortStr v = Unit {0}
-Typed (bits places) flags = length flags ≡ howMany places
-Typed login x = Unit {0}
-Typed table n = Unit {0}
+Typed k v = kind k .Typed v
 
 abbrev pub TypedAll : (fs : List Field) → Args Pooled fs → Type 0
 TypedAll fs vs = AllArgs Typed fs vs
@@ -106,16 +70,8 @@ TypedHeader (header c n present vs) = (c < 256 ^ 2) × (n < 256 ^ 8) × (length 
 
 -- No NUL in a login's user
 
-abbrev pub NoNul : List ℕ → Type 0
-NoNul [] = Unit {0}
-NoNul (x ∷ xs) = (eqb x 0 ≡ false) × NoNul xs
-
 abbrev pub NoNulArg : (k : Kind) → Meaning k → Type 0
-NoNulArg (number k) n = Unit {0}
-NoNulArg shortStr xs = Unit {0}
-NoNulArg (bits places) flags = Unit {0}
-NoNulArg login x = NoNul (x .user)
-NoNulArg table t = Unit {0}
+NoNulArg k v = kind k .NoNul v
 
 abbrev pub NoNulArgs : (fs : List Field) → Args Meaning fs → Type 0
 NoNulArgs fs vs = AllArgs NoNulArg fs vs

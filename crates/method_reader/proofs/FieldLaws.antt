@@ -1,7 +1,7 @@
 -- The loop over fields: a field's words stored, and one turn.
 use mathlib.Core.Path.{_≡_, refl, sym, ap, _∙_}
 use mathlib.Core.Bool.{cond}
-use mathlib.Core.List.{List, [], _∷_, _++_, map, append-nil}
+use mathlib.Core.List.{List, [], _∷_, _++_, map}
 use Prim.Native.Nat.{ℕ, _+_, _-_, _/_, _≤_, _<_}
 use native.Mathlib.Omega.{arith}
 use native.Mathlib.Nat.{sub-zero}
@@ -17,8 +17,7 @@ use Rattle.types.proofs.Chain.{then-go, given-next, given-value}
 use Rattle.types.proofs.Splice.{splice-nil, splice-after, splice-sets}
 use Rattle.tables.specs.Letters.{errata}
 use Rattle.tables.specs.Reading.{tableAt}
-use Rattle.tables.proofs.TapeLaws.{length-flatten}
-use Rattle.method.specs.Fields.{Kind, number, shortStr, bits, login, table, Field, fixed, arg, Located, Pooled, Args}
+use Rattle.method.specs.Fields.{Kind, kind, table, Field, fixed, arg, Located, Pooled, Args}
 use Rattle.method.specs.Properties.{select, flagsOf}
 use Rattle.method.specs.Reading.{argAt, argTape, fixedAt, fieldsAt, pooledArg, pooledArgs, used}
 use Rattle.method.specs.Words.{width, widths, argWords, argsWords}
@@ -33,12 +32,18 @@ use Rattle.method_reader.specs.declared.fields.ReadFields.{ReadFields}
 use Rattle.method_reader.specs.declared.fields.ReadFields.the-variants as fields
 use Rattle.method_reader.specs.Fields.{FieldRead, FieldsRead, fieldAt, FieldStored, tableAfter, lastTable, scanAt, FieldsStored, noTable}
 use Rattle.method_reader.specs.AnswerOf.{answerOfField, answerOfFields}
+use Rattle.method.proofs.KindLaws.{laws, tableOrNot, isTable, tableless}
+use Rattle.method.specs.Kinds.Table.{TableIn}
+use mathlib.Core.Logic.{⊎-elim}
+use mathlib.Core.Path.{subst⁻¹}
+use Rattle.method.proofs.Kind.{Tableless}
+use Rattle.tables.specs.Tape.{flatten}
+use Rattle.tables.proofs.TapeLaws.{length-flatten}
 
 -- One field stored
 
 own-width : (k : Kind) (v : Pooled k) → length (argWords k v) ≡ width (arg k)
-unfolding argsWords
-own-width k v = let l = length-words (arg k ∷ []) (v, tt) in omega (arith, rw (append-nil (argWords k v)) at l)
+own-width k v = laws errata k .length-words v
 
 module _ (k : Kind) (s : List ℕ) (p room j : ℕ) (before after : List ℕ) where
   pub stored-refused : (e : WireError) → argAt errata k s p room ≡ refused (refusal e) → FieldStored (fieldAt errata (arg k) s p room) j before after (field.Refused e)
@@ -63,20 +68,9 @@ stored-fixed xs s p room j words r e = by (fixedAt xs s p) e
     by (refused q) h = h
 
 -- only a table asks for room
-abbrev pub Roomless : Kind → Type 0
-Roomless (number k) = Unit {0}
-Roomless shortStr = Unit {0}
-Roomless (bits places) = Unit {0}
-Roomless login = Unit {0}
-Roomless table = ⊥
-
-pub roomless : (k : Kind) (s : List ℕ) (p room : ℕ) → Roomless k → fieldAt errata (arg k) s p 0 ≡ fieldAt errata (arg k) s p room
+pub roomless : (k : Kind) (s : List ℕ) (p room : ℕ) → isTable k ≡ 0 → fieldAt errata (arg k) s p 0 ≡ fieldAt errata (arg k) s p room
 unfolding fieldAt argAt
-roomless (number k) s p room h = refl
-roomless shortStr s p room h = refl
-roomless (bits places) s p room h = refl
-roomless login s p room h = refl
-roomless table s p room h = absurd h
+roomless k s p room h = rw (tableless k h .no-room errata s p room)
 
 -- One turn: a field, then the fields left
 
@@ -85,24 +79,25 @@ abbrev placeAfter : ℕ → ℕ → TablePlace → TablePlace
 placeAfter own p last = cond (eqb own 0) last (record { records = own; start = p })
 
 own-tape : (k : Kind) (v : Located k) → used k (pooledArg k v) ≡ length (argTape k v)
-own-tape (number k) v = refl
-own-tape shortStr v = refl
-own-tape (bits places) v = refl
-own-tape login v = refl
-own-tape table v = sym (length-flatten (v .entries))
+own-tape k v = laws errata k .used-tape v
+
+pub no-records : (k : Kind) → Tableless (kind k) → (v : Located k) → used k (pooledArg k v) ≡ 0
+no-records k t v = own-tape k v ∙ ap length (t .no-tape v)
 
 own-table : (k : Kind) (s : List ℕ) (p room : ℕ) (v : Located k) (q : ℕ) (last : TablePlace) → argAt errata k s p room ≡ given v q
-    → tableAfter k v last ≡ placeAfter (used k (pooledArg k v)) p last
+    → tableAfter k v last ≡ placeAfter (length (argTape k v)) p last
 unfolding argAt
-own-table (number k) s p room v q last e = refl
-own-table shortStr s p room v q last e = refl
-own-table (bits places) s p room v q last e = refl
-own-table login s p room v q last e = refl
-own-table table s p room v q last e =
-    then-go (tableAt errata s p room) _ v q e
-    (λ t m e1 h.
-    let w = given-value (record { start = p; entries = t }) v m q h in
-    rw (← w))
+own-table k s p room v q last e =
+    ⊎-elim (λ t. rw (no-records k t v, t .no-tape v))
+    (λ h. subst⁻¹ (λ (j : Kind). (x : Located j) → argAt errata j s p room ≡ given x q → tableAfter j x last ≡ placeAfter (length (argTape j x)) p last) h at-start v e)
+    (tableOrNot k)
+  where
+    at-start : (x : TableIn) → argAt errata table s p room ≡ given x q → tableAfter table x last ≡ placeAfter (length (flatten (x .entries))) p last
+    at-start x h =
+        then-go (tableAt errata s p room) _ x q h
+        (λ t m e1 h1.
+        let w = given-value (record { start = p; entries = t }) x m q h1 in
+        rw (← w, length-flatten t))
 
 -- what was answered, by what was stored
 module _ (j : ℕ) (before stored : List ℕ) (r : ReadField) where
@@ -174,7 +169,7 @@ module _ (fs : List Field) (s : List ℕ) (p room : ℕ) (last : TablePlace) whe
       let y : FieldRead = record { words = argWords k (pooledArg k v); records = used k (pooledArg k v) } in
       let w = given-value y x m q h1 in
       let n = given-next y x m q h1 in
-      rw (e1, ← w, ← n, ← (own-table k s p room v m last e1), own-tape k v) (one v (fieldsAt errata fs s m (room - length (argTape k v)))))
+      rw (e1, ← w, ← n, own-tape k v, ← (own-table k s p room v m last e1)) (one v (fieldsAt errata fs s m (room - length (argTape k v)))))
     where
       one : (v : Located k) (b : Answer (Args Located fs))
           → andThen (andThen b (λ vs r. given (v, vs) r))

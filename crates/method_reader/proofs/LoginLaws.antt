@@ -14,8 +14,9 @@ use Rattle.types.specs.Strings.{octetsOf, longStrAt}
 use Rattle.types.specs.declared.Span.{Span}
 use Rattle.types.proofs.RoundTrip.{long-start}
 use Rattle.tables.specs.Letters.{Letters}
-use Rattle.method.specs.Fields.{login, Login}
-use Rattle.method.specs.Reading.{oneMore, untilNul, userLength, loginSpans, loginUtf8, loginIn, argAt}
+use Rattle.method.specs.Fields.{login}
+use Rattle.method.specs.Reading.{argAt}
+use Rattle.method.specs.Kinds.Login.{Login, oneMore, untilNul, userLength, loginSpans, loginUtf8, loginIn}
 use Rattle.method_reader.specs.Fields.{nulOr}
 
 -- The octets from i up to the end, and the place of their first NUL or the end

@@ -1,22 +1,21 @@
 -- What is known of fields that were read: their words give the arguments back, and the table among them fills the tape.
 use mathlib.Core.Path.{_≡_, refl, sym, ap, _∙_}
-use mathlib.Core.Bool.{Bool, true, false, cond}
-use mathlib.Core.Option.{Option, none, some}
+use mathlib.Core.Bool.{Bool, true, false}
+use mathlib.Core.Option.{none}
 use mathlib.Core.List.{List, [], _∷_, _++_, append-nil}
-use Prim.Native.Nat.{ℕ, suc, _+_, _-_, _*_, _^_, _/_, _%_, _≤_, _<_}
-use native.Mathlib.Nat.{mod-eq-of-lt, zero-add}
+use Prim.Native.Nat.{ℕ, _+_, _-_, _*_, _≤_}
+use native.Mathlib.Nat.{zero-add}
 use native.Mathlib.Omega.{arith}
 use borrow.Author.Tests.{eqb-true}
 use lib.ListN.{length, drop}
 use lib.Dec.{leb, eqb}
 use Rattle.types.specs.Answer.{Answer, given, refused, andThen}
 use Rattle.types.specs.AnswerOf.{refusal}
-use Rattle.types.specs.Octets.{uintAt}
 use Rattle.types.specs.Memory.{splice, outcome}
 use Rattle.types.specs.Records.{concatMap}
 use Rattle.types.specs.declared.WireError.{WireError}
 use Rattle.types.proofs.Chain.{then-go, given-next, given-value}
-use Rattle.types.proofs.NumberLaws.{Octets, uintAt-lt}
+use Rattle.types.proofs.NumberLaws.{Octets}
 use Rattle.types.proofs.Splice.{splice-nil}
 use Rattle.types.proofs.Standing.{length-zero}
 use Rattle.types.proofs.Tests.{decide, yes-leb}
@@ -25,128 +24,61 @@ use Rattle.tables.specs.Forest.{size}
 use Rattle.tables.specs.Reading.{tableAt}
 use Rattle.tables.specs.Tape.{Record, tapeRecords, flatten, roomOf, fillTape, readTable}
 use Rattle.tables.proofs.TapeLaws.{length-flatten}
-use Rattle.method.specs.Fields.{Kind, number, shortStr, bits, login, table, Field, fixed, arg, TableIn, Located, Pooled, Args}
+use Rattle.method.specs.Fields.{Kind, kind, table, Field, fixed, arg, Located, Pooled, Args}
 use Rattle.method.specs.Commands.{commands, fieldsOf}
 use Rattle.method.specs.Properties.{properties, select}
-use Rattle.method.specs.Writing.{howMany}
-use Rattle.method.specs.Reading.{flagsIn, withFlag, writtenAt, argAt, argTape, tapeOf, fixedAt, fieldsAt, pooledArg, pooledArgs}
+use Rattle.method.specs.Reading.{argAt, argTape, tapeOf, fixedAt, fieldsAt, pooledArgs}
 use Rattle.method.specs.Words.{argsWords, argsFrom}
+use Rattle.method.specs.Kinds.Table.{TableIn}
+use Rattle.method.specs.Writing.{TypedAll}
 use Rattle.method.proofs.LayoutLaws.{every-command}
-use Rattle.method.proofs.WordLaws.{FlagFit, FlagsFit, args-words}
-use Rattle.method_words.specs.Words.{cutArg, cutArgs}
+use Rattle.method.proofs.WordLaws.{args-words}
+use Rattle.method_words.specs.Words.{cutArgs}
 use Rattle.method_reader.specs.Fields.{FieldsRead, tableAfter, lastTable, scanAt, FieldsStored, noTable, tableFilled}
 use Rattle.method_reader.specs.AnswerOf.{answerOfFields}
 use Rattle.method_reader.specs.declared.fields.TablePlace.{TablePlace}
 use Rattle.method_reader.specs.declared.fields.ReadFields.{ReadFields}
 use Rattle.method_reader.specs.declared.fields.ReadFields.the-variants as fields
+use mathlib.Core.Path.{subst⁻¹}
+use mathlib.Core.Logic.{_⊎_, inl, inr}
+use Rattle.tables.specs.Letters.{errata}
+use Rattle.method.proofs.Kind.{Tableless}
+use Rattle.method.proofs.KindLaws.{laws, tableOrNot, count, isTable, tableless}
+use Rattle.method_reader.proofs.FieldLaws.{no-records}
 
--- What was read fits its kind: a number its octets, flags their places
+-- What was read is in the range of its type
 
-abbrev ReadFit : (k : Kind) → Pooled k → Type 0
-ReadFit (number k) n = n < 256 ^ k
-ReadFit shortStr v = Unit {0}
-ReadFit (bits places) flags = length flags ≡ howMany places
-ReadFit login x = Unit {0}
-ReadFit table n = Unit {0}
-
-abbrev ReadFits : (fs : List Field) → Args Pooled fs → Type 0
-ReadFits [] vs = Unit {0}
-ReadFits (fixed xs ∷ fs) vs = ReadFits fs vs
-ReadFits (arg k ∷ fs) vs = ReadFit k (vs .0) × ReadFits fs (vs .1)
-
-flags-count : (places : List Bool) (n : ℕ) (flags : List Bool) → flagsIn places n ≡ some flags → length flags ≡ howMany places
-unfolding flagsIn
-flags-count [] n flags e = here (eqb n 0) e
-  where
-    here : (b : Bool) → cond b (some []) none ≡ some flags → length flags ≡ 0
-    here true h = let same : flags ≡ [] = cc in ap (λ (l : List Bool). length l) same
-    here false h = let z : _≡_ {A = ℕ} 0 1 = cc in absurd (omega arith)
-flags-count (false ∷ places) n flags e = here (eqb (n % 2) 1) e (λ h. flags-count places (n / 2) flags h)
-  where
-    here : (b : Bool) → cond b none (flagsIn places (n / 2)) ≡ some flags → (flagsIn places (n / 2) ≡ some flags → length flags ≡ howMany places)
-        → length flags ≡ howMany places
-    here true h later = let z : _≡_ {A = ℕ} 0 1 = cc in absurd (omega arith)
-    here false h later = later h
-flags-count (true ∷ places) n flags e = here (flagsIn places (n / 2)) e (λ more h. flags-count places (n / 2) more h)
-  where
-    here : (o : Option (List Bool)) → withFlag (eqb (n % 2) 1) o ≡ some flags → ((more : List Bool) → o ≡ some more → length more ≡ howMany places)
-        → length flags ≡ suc (howMany places)
-    here none h later = let z : _≡_ {A = ℕ} 0 1 = cc in absurd (omega arith)
-    here (some more) h later =
-        let same : flags ≡ eqb (n % 2) 1 ∷ more = cc in
-        ap (λ (l : List Bool). length l) same ∙ ap suc (later more refl)
-
-written-value : {A : Type 0} (p : ℕ) (o : Option A) (q : ℕ) (a : A) (n : ℕ) → writtenAt p o q ≡ given a n → o ≡ some a
-written-value p none q a n e = let z : _≡_ {A = ℕ} 0 1 = cc in absurd (omega arith)
-written-value p (some x) q a n e = ap some (given-value x a q n e)
-
-flag-fit : (k : Kind) (v : Pooled k) → ReadFit k v → FlagFit k v
-flag-fit (number k) v f = tt
-flag-fit shortStr v f = tt
-flag-fit (bits places) v f = f
-flag-fit login v f = tt
-flag-fit table v f = tt
-
-flags-fit : (fs : List Field) (vs : Args Pooled fs) → ReadFits fs vs → FlagsFit fs vs
-flags-fit [] vs f = tt
-flags-fit (fixed xs ∷ fs) vs f = flags-fit fs vs f
-flags-fit (arg k ∷ fs) vs f = (flag-fit k (vs .0) (f .0), flags-fit fs (vs .1) (f .1))
-
-arg-kept : (k : Kind) (v : Pooled k) → ReadFit k v → cutArg k v ≡ v
-arg-kept (number k) v f = mod-eq-of-lt f
-arg-kept shortStr v f = refl
-arg-kept (bits places) v f = refl
-arg-kept login v f = refl
-arg-kept table v f = refl
-
-args-kept : (fs : List Field) (vs : Args Pooled fs) → ReadFits fs vs → cutArgs fs vs ≡ vs
+args-kept : (fs : List Field) (vs : Args Pooled fs) → TypedAll fs vs → cutArgs fs vs ≡ vs
 unfolding cutArgs
 args-kept [] vs f = refl
 args-kept (fixed xs ∷ fs) vs f = args-kept fs vs f
-args-kept (arg k ∷ fs) vs f = rw (arg-kept k (vs .0) (f .0), args-kept fs (vs .1) (f .1))
+args-kept (arg k ∷ fs) vs f = rw (laws errata k .kept (vs .0) (f .0), args-kept fs (vs .1) (f .1))
 
 module _ (letters : Letters) where
-  arg-fit : (k : Kind) (s : List ℕ) (p room : ℕ) (v : Located k) (q : ℕ) → Octets s → argAt letters k s p room ≡ given v q → ReadFit k (pooledArg k v)
-  unfolding argAt
-  arg-fit (number k) s p room v q o e = uintAt-lt k s p o (sym e)
-  arg-fit shortStr s p room v q o e = tt
-  arg-fit (bits places) s p room v q o e =
-      then-go (uintAt 1 s p) _ v q e (λ n r e1 h1. flags-count places n v (written-value p (flagsIn places n) r v q h1))
-  arg-fit login s p room v q o e = tt
-  arg-fit table s p room v q o e = tt
-
-  args-fit : (fs : List Field) (s : List ℕ) (p room : ℕ) (vs : Args Located fs) (q : ℕ) → Octets s → fieldsAt letters fs s p room ≡ given vs q
-      → ReadFits fs (pooledArgs fs vs)
-  unfolding fieldsAt pooledArgs
-  args-fit [] s p room vs q o e = tt
-  args-fit (fixed xs ∷ fs) s p room vs q o e = then-go (fixedAt xs s p) _ vs q e (λ x r e1 h1. args-fit fs s r room vs q o h1)
-  args-fit (arg k ∷ fs) s p room vs q o e =
+  args-typed : (fs : List Field) (s : List ℕ) (p room : ℕ) (vs : Args Located fs) (q : ℕ) → Octets s → fieldsAt letters fs s p room ≡ given vs q
+      → TypedAll fs (pooledArgs fs vs)
+  unfolding fieldsAt argAt pooledArgs
+  args-typed [] s p room vs q o e = tt
+  args-typed (fixed xs ∷ fs) s p room vs q o e = then-go (fixedAt xs s p) _ vs q e (λ x r e1 h1. args-typed fs s r room vs q o h1)
+  args-typed (arg k ∷ fs) s p room vs q o e =
       then-go (argAt letters k s p room) _ vs q e
       (λ v r e1 h1.
       then-go (fieldsAt letters fs s r (room - length (argTape k v))) _ vs q h1
       (λ ws t e2 h2.
-      rw (← (given-value _ vs t q h2)) (arg-fit k s p room v r o e1, args-fit fs s r (room - length (argTape k v)) ws t o e2)))
+      rw (← (given-value _ vs t q h2)) (laws letters k .typed s p room v r o e1, args-typed fs s r (room - length (argTape k v)) ws t o e2)))
 
   -- the words of what was read give it back, whatever stands behind them
   pub args-read : (fs : List Field) (s : List ℕ) (p room : ℕ) (vs : Args Located fs) (q : ℕ) (more : List ℕ) → Octets s → fieldsAt letters fs s p room ≡ given vs q
       → cutArgs fs (argsFrom fs (argsWords fs (pooledArgs fs vs) ++ more)) ≡ pooledArgs fs vs
   args-read fs s p room vs q more o e =
-      let f = args-fit fs s p room vs q o e in
-      rw (args-words fs (pooledArgs fs vs) more (flags-fit fs (pooledArgs fs vs) f)) (args-kept fs (pooledArgs fs vs) f)
+      rw (args-words fs (pooledArgs fs vs) more) (args-kept fs (pooledArgs fs vs) (args-typed fs s p room vs q o e))
 
 -- Tables among the fields: one at most, in any command and in any content header
 
-abbrev isTable : Field → ℕ
-isTable (fixed xs) = 0
-isTable (arg (number k)) = 0
-isTable (arg shortStr) = 0
-isTable (arg (bits places)) = 0
-isTable (arg login) = 0
-isTable (arg table) = 1
-
 abbrev pub tables : List Field → ℕ
 tables [] = 0
-tables (f ∷ fs) = isTable f + tables fs
+tables (fixed xs ∷ fs) = tables fs
+tables (arg k ∷ fs) = isTable k + tables fs
 
 pub command-tables : (c m : ℕ) → tables (fieldsOf c m) ≤ 1
 command-tables c m = yes-leb (tables (fieldsOf c m)) 1 (every-command (λ fs. leb (tables fs) 1) c m refl (unfold commands in refl))
@@ -155,8 +87,10 @@ select-tables : (ps : List Bool) (fs : List Field) → tables (select ps fs) ≤
 unfolding select
 select-tables [] fs = omega arith
 select-tables (p ∷ ps) [] = omega arith
-select-tables (true ∷ ps) (f ∷ fs) = omega (arith, select-tables ps fs)
-select-tables (false ∷ ps) (f ∷ fs) = omega (arith, select-tables ps fs)
+select-tables (true ∷ ps) (fixed xs ∷ fs) = select-tables ps fs
+select-tables (true ∷ ps) (arg k ∷ fs) = omega (arith, select-tables ps fs)
+select-tables (false ∷ ps) (fixed xs ∷ fs) = select-tables ps fs
+select-tables (false ∷ ps) (arg k ∷ fs) = omega (arith, select-tables ps fs)
 
 pub property-tables : (ps : List Bool) → tables (select ps properties) ≤ 1
 property-tables ps =
@@ -166,12 +100,10 @@ property-tables ps =
 no-tables : (fs : List Field) (vs : Args Located fs) (last : TablePlace) → tables fs ≡ 0 → (lastTable fs vs last ≡ last) × (tapeOf fs vs ≡ [])
 unfolding lastTable tapeOf
 no-tables [] vs last e = (refl, refl)
-no-tables (fixed xs ∷ fs) vs last e = no-tables fs vs last (omega arith)
-no-tables (arg (number k) ∷ fs) vs last e = no-tables fs (vs .1) last (omega arith)
-no-tables (arg shortStr ∷ fs) vs last e = no-tables fs (vs .1) last (omega arith)
-no-tables (arg (bits places) ∷ fs) vs last e = no-tables fs (vs .1) last (omega arith)
-no-tables (arg login ∷ fs) vs last e = no-tables fs (vs .1) last (omega arith)
-no-tables (arg table ∷ fs) vs last e = absurd (omega arith)
+no-tables (fixed xs ∷ fs) vs last e = no-tables fs vs last e
+no-tables (arg k ∷ fs) vs last e =
+    let t = tableless k (omega arith) in
+    rw (no-records k t (vs .0), t .no-tape (vs .0)) (no-tables fs (vs .1) last (omega arith))
 
 -- the tape at exit and the number of records, from the place of the table
 pub record Filled (letters : Letters) (s : List ℕ) (place : TablePlace) (used : ℕ) (tape : List ℕ) (rs : List Record) : Type 0 where
@@ -192,17 +124,21 @@ module _ (letters : Letters) (s : List ℕ) (used : ℕ) (tape : List ℕ) where
       rw (z, none) (record { memory = sym (splice-nil (used * 6) tape); count = refl }))
       (λ z. rw z (record { memory = rw z (unfold readTable in rw e1); count = sym (length-flatten f) }))))
 
-  arg-filled : (k : Kind) (fs : List Field) (p room : ℕ) (v : Located k) (q : ℕ) (vs : Args Located fs) → isTable (arg k) + tables fs ≤ 1 → room ≡ roomOf used tape
+  arg-filled : (k : Kind) (fs : List Field) (p room : ℕ) (v : Located k) (q : ℕ) (vs : Args Located fs) → isTable k + tables fs ≤ 1 → room ≡ roomOf used tape
       → argAt letters k s p room ≡ given v q
       → (tables fs ≤ 1 → room - length (argTape k v) ≡ roomOf used tape → Filled letters s (lastTable fs vs noTable) used tape (tapeOf fs vs))
       → Filled letters s (lastTable fs vs (tableAfter k v noTable)) used tape (argTape k v ++ tapeOf fs vs)
-  arg-filled (number k) fs p room v q vs h r e later = later (omega arith) (omega arith)
-  arg-filled shortStr fs p room v q vs h r e later = later (omega arith) (omega arith)
-  arg-filled (bits places) fs p room v q vs h r e later = later (omega arith) (omega arith)
-  arg-filled login fs p room v q vs h r e later = later (omega arith) (omega arith)
-  arg-filled table fs p room v q vs h r e later =
-      let a = no-tables fs vs (tableAfter table v noTable) (omega arith) in
-      rw (a .0, a .1, append-nil (flatten (v .entries))) (one-table p q v (rw r at e))
+  arg-filled k fs p room v q vs h r e later = go (tableOrNot k) h
+    where
+      go : (o : Tableless (kind k) ⊎ (k ≡ table)) → count o + tables fs ≤ 1 → Filled letters s (lastTable fs vs (tableAfter k v noTable)) used tape (argTape k v ++ tapeOf fs vs)
+      go (inl t) n =
+          let none = t .no-tape v in
+          rw (no-records k t v, none) (later (omega arith) (omega (arith, ap length none)))
+      go (inr w) n =
+          subst⁻¹ (λ (j : Kind). (x : Located j) → argAt letters j s p room ≡ given x q → Filled letters s (lastTable fs vs (tableAfter j x noTable)) used tape (argTape j x ++ tapeOf fs vs)) w
+          (λ x f.
+          let a = no-tables fs vs (tableAfter table x noTable) (omega arith) in
+          rw (a .0, a .1, append-nil (flatten (x .entries))) (one-table p q x (rw r at f))) v e
 
   pub table-filled : (fs : List Field) (p room : ℕ) (vs : Args Located fs) (q : ℕ) → tables fs ≤ 1 → room ≡ roomOf used tape → fieldsAt letters fs s p room ≡ given vs q
       → Filled letters s (lastTable fs vs noTable) used tape (tapeOf fs vs)

@@ -5,10 +5,11 @@ use Rattle.types.specs.Answer.{Answer, given, refused}
 use Rattle.types.specs.AnswerOf.{refusal}
 use Rattle.types.specs.declared.Span.{Span}
 use Rattle.tables.specs.Tape.{WithCount}
-use Rattle.method.specs.Fields.{Pooled, Login}
+use Rattle.method.specs.Fields.{Pooled}
 use Rattle.method.specs.Commands.{Command}
 use Rattle.method.specs.Properties.{Header}
 use Rattle.method.specs.AnswerOf.{commandOf, headerOf}
+use Rattle.method.specs.Kinds.Login.{Login}
 use Rattle.method_words.specs.declared.Call.{Call}
 use Rattle.method_words.specs.declared.HeaderWords.{HeaderWords}
 use Rattle.method_reader.specs.declared.ReadCall.{ReadCall}

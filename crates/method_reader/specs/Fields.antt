@@ -5,13 +5,12 @@ use mathlib.Core.Option.{Option, none, some}
 use mathlib.Core.List.{List, [], _∷_}
 use Prim.Native.Nat.{ℕ, _+_}
 use lib.Dec.{eqb}
-use Rattle.bits.specs.Flags.{packBits}
 use Rattle.types.specs.Answer.{Answer, given, refused, andThen}
 use Rattle.types.specs.Memory.{splice, Outcome, outcome}
 use Rattle.tables.specs.Letters.{Letters}
-use Rattle.tables.specs.Forest.{size}
 use Rattle.tables.specs.Tape.{WithCount, roomOf, fillTape, readTable}
-use Rattle.method.specs.Fields.{Kind, number, shortStr, bits, login, table, Field, fixed, arg, Located, Pooled, Args}
+use Rattle.method.specs.Fields.{Kind, kind, Field, fixed, arg, Located, Pooled, Args}
+use Rattle.method.specs.Kinds.Bits.{Flags, packed}
 use Rattle.method.specs.Commands.{Command}
 use Rattle.method.specs.Properties.{Header}
 use Rattle.method.specs.Reading.{argAt, fixedAt, fieldsAt, argumentsAt, propertiesAt, sizedAt, pooledArg, pooledArgs, used, commandWithTape, headerWithTape}
@@ -22,9 +21,9 @@ use Rattle.method_reader.specs.declared.fields.ReadFields.{ReadFields}
 use Rattle.method_reader.specs.AnswerOf.{answerOfField, answerOfFields}
 
 -- flags as a number, or another one where a bit is set that is no argument
-abbrev pub flagsOr : ℕ → Option (List Bool) → ℕ
-flagsOr other none = other
-flagsOr other (some flags) = packBits flags
+abbrev pub flagsOr : (places : List Bool) → ℕ → Option (Flags places) → ℕ
+flagsOr places other none = other
+flagsOr places other (some flags) = packed places flags
 
 -- the place of a NUL that was looked for from p on, or the end
 abbrev pub nulOr : ℕ → ℕ → Option ℕ → ℕ
@@ -55,11 +54,7 @@ pub record FieldsRead : Type 0 where
   pub table : TablePlace
 
 abbrev pub tableAfter : (k : Kind) → Located k → TablePlace → TablePlace
-tableAfter (number k) n last = last
-tableAfter shortStr v last = last
-tableAfter (bits places) flags last = last
-tableAfter login x last = last
-tableAfter table t last = cond (eqb (size (t .entries)) 0) last (record { records = size (t .entries); start = t .start })
+tableAfter k v last = let n = used k (pooledArg k v) in cond (eqb n 0) last (record { records = n; start = kind k .start v })
 
 unfoldable pub lastTable : (fs : List Field) → Args Located fs → TablePlace → TablePlace
 lastTable [] vs last = last

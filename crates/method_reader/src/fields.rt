@@ -10,9 +10,10 @@ ghost use Rattle.types.specs.AnswerOf.{answerOfU64};
 ghost use Rattle.tables.specs.Letters.{errata};
 ghost use Rattle.method.specs.Fields.{arg, number, shortStr, bits, login, table};
 ghost use Rattle.method.specs.Properties.{select, flagsOf};
-ghost use Rattle.method.specs.Reading.{flagsIn, fixedAt};
+ghost use Rattle.method.specs.Reading.{fixedAt};
 ghost use Rattle.method.specs.Words.{width, widths};
 ghost use Rattle.method.specs.Layout.{fieldOf, fixedOctets, numberWidth, places};
+ghost use Rattle.method.specs.Kinds.Bits.{flagsIn};
 ghost use Rattle.method_reader.specs.Fields.{flagsOr, fieldAt, FieldStored, scanAt, FieldsStored, noTable, tableFilled};
 ghost use Rattle.method_reader.specs.AnswerOf.{answerOfField};
 use crate::login::ReadLogin;
@@ -102,7 +103,7 @@ const SPARE_BIT: u8 = 0xFF;
 
 // The flags in a bit octet, the first one lowest; the digit says which bits are arguments.
 fn flags_in(n: u8, digit: u8) -> u8
-    ensures { λ r. ⌜ r ≡ flagsOr 0xFF (flagsIn (places digit) n) ⌝ }
+    ensures { λ r. ⌜ r ≡ flagsOr (places digit) 0xFF (flagsIn (places digit) n) ⌝ }
 {
     match digit {
         1 => {

@@ -10,48 +10,48 @@ use Rattle.method.specs.Layout.{zeros}
 use Rattle.method.specs.AnswerOf.{commandOf}
 use Rattle.method.specs.declared.Command.{Command}
 use Rattle.method.specs.declared.Command.the-variants.{ConnectionStartOk, ConnectionTuneOk, ConnectionOpen, ChannelOpen, ChannelFlow, ChannelFlowOk, ChannelClose, ChannelCloseOk, ExchangeDeclare, ExchangeDelete, QueueDeclare, QueueBind, QueueUnbind, QueuePurge, QueueDelete, BasicQos, BasicConsume, BasicCancel, BasicPublish, BasicGet, BasicAck, BasicReject, BasicNack, ConfirmSelect, TxSelect}
-use Rattle.method.proofs.WordLaws.{FlagsFit, args-words}
+use Rattle.method.proofs.WordLaws.{args-words}
 use Rattle.method_words.specs.Words.{callOf}
 use Rattle.method_words.specs.declared.Call.{Call}
 
-abbrev Fit : table.Command Pooled → Type 0
-Fit (call c m vs) = (known c m ≡ true) × FlagsFit (fieldsOf c m) vs
+abbrev Known : table.Command Pooled → Type 0
+Known (call c m vs) = known c m ≡ true
 
-command-fit : (x : Command) → Fit (commandOf x)
-unfolding commandOf commands known fieldsOf
-command-fit (ConnectionStartOk user password) = (refl, (tt, tt))
-command-fit (ConnectionTuneOk channel-max frame-max heartbeat) = (refl, (tt, (tt, (tt, tt))))
-command-fit (ConnectionOpen vhost) = (refl, (tt, tt))
-command-fit ChannelOpen = (refl, tt)
-command-fit (ChannelFlow active) = (refl, (refl, tt))
-command-fit (ChannelFlowOk active) = (refl, (refl, tt))
-command-fit (ChannelClose code text) = (refl, (tt, (tt, tt)))
-command-fit ChannelCloseOk = (refl, tt)
-command-fit (ExchangeDeclare name kind durable) = (refl, (tt, (tt, (refl, tt))))
-command-fit (ExchangeDelete name if-unused) = (refl, (tt, (refl, tt)))
-command-fit (QueueDeclare queue durable) = (refl, (tt, (refl, tt)))
-command-fit (QueueBind queue exchange key) = (refl, (tt, (tt, (tt, tt))))
-command-fit (QueueUnbind queue exchange key) = (refl, (tt, (tt, (tt, tt))))
-command-fit (QueuePurge queue) = (refl, (tt, tt))
-command-fit (QueueDelete queue) = (refl, (tt, tt))
-command-fit (BasicQos size count global) = (refl, (tt, (tt, (refl, tt))))
-command-fit (BasicConsume queue tag no-ack) = (refl, (tt, (tt, (refl, tt))))
-command-fit (BasicCancel tag no-wait) = (refl, (tt, (refl, tt)))
-command-fit (BasicPublish exchange key) = (refl, (tt, (tt, tt)))
-command-fit (BasicGet queue no-ack) = (refl, (tt, (refl, tt)))
-command-fit (BasicAck tag multiple) = (refl, (tt, (refl, tt)))
-command-fit (BasicReject tag requeue) = (refl, (tt, (refl, tt)))
-command-fit (BasicNack tag multiple requeue) = (refl, (tt, (refl, tt)))
-command-fit (ConfirmSelect no-wait) = (refl, (refl, tt))
-command-fit TxSelect = (refl, tt)
+command-known : (x : Command) → Known (commandOf x)
+unfolding commandOf commands known
+command-known (ConnectionStartOk user password) = refl
+command-known (ConnectionTuneOk channel-max frame-max heartbeat) = refl
+command-known (ConnectionOpen vhost) = refl
+command-known ChannelOpen = refl
+command-known (ChannelFlow active) = refl
+command-known (ChannelFlowOk active) = refl
+command-known (ChannelClose code text) = refl
+command-known ChannelCloseOk = refl
+command-known (ExchangeDeclare name kind durable) = refl
+command-known (ExchangeDelete name if-unused) = refl
+command-known (QueueDeclare queue durable) = refl
+command-known (QueueBind queue exchange key) = refl
+command-known (QueueUnbind queue exchange key) = refl
+command-known (QueuePurge queue) = refl
+command-known (QueueDelete queue) = refl
+command-known (BasicQos size count global) = refl
+command-known (BasicConsume queue tag no-ack) = refl
+command-known (BasicCancel tag no-wait) = refl
+command-known (BasicPublish exchange key) = refl
+command-known (BasicGet queue no-ack) = refl
+command-known (BasicAck tag multiple) = refl
+command-known (BasicReject tag requeue) = refl
+command-known (BasicNack tag multiple requeue) = refl
+command-known (ConfirmSelect no-wait) = refl
+command-known TxSelect = refl
 
-words-back : (y : table.Command Pooled) → Fit y
+words-back : (y : table.Command Pooled) → Known y
     → let r = callOf y in
     (y ≡ commandFrom (r .class) (r .method) (r .words)) × (known (r .class) (r .method) ≡ true)
 words-back (call c m vs) f =
     let ws = argsWords (fieldsOf c m) vs in
-    (ap (call c m) (sym (args-words (fieldsOf c m) vs (drop (length ws) (zeros 8)) (f .1))), f .0)
+    (ap (call c m) (sym (args-words (fieldsOf c m) vs (drop (length ws) (zeros 8)))), f)
 
 pub call-back : (x : Command) (r : Call) → r ≡ callOf (commandOf x)
     → (commandOf x ≡ commandFrom (r .class) (r .method) (r .words)) × (known (r .class) (r .method) ≡ true)
-call-back x r e = rw e (words-back (commandOf x) (command-fit x))
+call-back x r e = rw e (words-back (commandOf x) (command-known x))

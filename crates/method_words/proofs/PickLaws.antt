@@ -13,8 +13,9 @@ use lib.Pow.{pow-pos}
 use Rattle.types.proofs.Tests.{leb-yes, leb-no, yes-leb, no-leb, decide}
 use Rattle.method.specs.Fields.{Kind, Field, arg, Pooled, Args}
 use Rattle.method.specs.Properties.{properties, select, flagsOf, Header, header}
-use Rattle.method.specs.Words.{width, spanFrom, argFrom, argsFrom}
+use Rattle.method.specs.Words.{width, argFrom, argsFrom}
 use Rattle.method.specs.AnswerOf.{Optional, isThere, present, withFirst, chosen}
+use Rattle.method.specs.Kinds.ShortStr.{spanFrom}
 use Rattle.method_words.specs.declared.headers.Rest.{Rest}
 use Rattle.method_words.specs.Words.{cutArg, cutArgs, headerWith}
 use Rattle.method_words.specs.Properties.{nextOf, restOf}

@@ -1,36 +1,36 @@
 -- The properties of a content header as words: each is put behind the one before, and all of them are what the header is. And back.
 use mathlib.Core.Path.{_≡_, refl, sym, ap, _∙_}
-use mathlib.Core.Bool.{Bool, true, false}
+use mathlib.Core.Bool.{Bool, true}
 use mathlib.Core.Option.{Option, none, some}
 use mathlib.Core.List.{List, [], _∷_, _++_, map, append-assoc, append-nil}
 use Prim.Native.Nat.{ℕ, zero, suc, _+_, _*_, _^_, _≤_, _<_}
 use native.Mathlib.Nat.{add-zero, zero-add, two-pow-succ}
 use native.Mathlib.Numerals.{add-one}
 use native.Mathlib.Omega.{arith}
-use lib.ListN.{length, set, take, drop, getD, length-append, length-map}
+use lib.ListN.{length, set, take, drop, getD, length-append}
 use lib.Seq.{take-suc, take-all}
 use lib.Dec.{leb}
 use Rattle.bits.specs.Flags.{bit}
 use Rattle.bits.proofs.FlagLaws.{bit-small}
 use Rattle.types.specs.Memory.{splice}
 use Rattle.types.specs.declared.Span.{Span}
-use Rattle.types.proofs.Tests.{true-T, leb-yes, yes-leb}
+use Rattle.types.proofs.Tests.{leb-yes, yes-leb}
 use Rattle.types.proofs.Splice.{splice-nil, splice-length, splice-after, splice-sets}
-use Rattle.method.specs.Fields.{Kind, number, shortStr, bits, login, table, Field, fixed, arg, Pooled, Args}
+use Rattle.method.specs.Fields.{Kind, shortStr, Field, fixed, arg, Pooled, Args}
 use Rattle.method.specs.Properties.{properties, select, flagsNumber, flagsOf, header}
 use Rattle.method.specs.Words.{width, widths, argWords, argsWords, argsFrom, headerFrom}
 use Rattle.method.specs.Layout.{zeros}
 use Rattle.method.specs.AnswerOf.{Optional, isThere, present, withFirst, chosen, propertiesOf, headerOf}
 use Rattle.method.specs.declared.ContentProperties.{ContentProperties}
 use Rattle.method.specs.declared.ContentHeader.{ContentHeader}
-use Rattle.tables.proofs.JudgeLaws.{and-true}
-use Rattle.method.proofs.LayoutLaws.{every}
-use Rattle.method.proofs.WordLaws.{FlagFit, FlagsFit, args-words}
+use Rattle.method.proofs.WordLaws.{args-words}
 use Rattle.method.proofs.MethodLaws.{flags-lt, flags-of}
 use Rattle.method_words.specs.Words.{padded, headerWords}
 use Rattle.method_words.specs.Properties.{optionalWords, wordsOr, Put, PutAll}
 use Rattle.method_words.specs.declared.HeaderWords.{HeaderWords}
 use Rattle.method_words.specs.declared.properties.Done.{Done}
+use Rattle.method.proofs.KindLaws.{laws}
+use Rattle.tables.specs.Letters.{errata}
 
 -- One property
 
@@ -83,11 +83,7 @@ options-present (arg k ∷ fs) vs = rw (words-there k (vs .0), options-present f
 
 words-width : (k : Kind) (o : Optional k) → length (wordsOr (optionalWords k o)) ≤ width (arg k)
 words-width k none = omega arith
-words-width (number n) (some v) = omega arith
-words-width shortStr (some v) = omega arith
-words-width (bits places) (some v) = omega arith
-words-width login (some v) = omega arith
-words-width table (some v) = omega arith
+words-width k (some v) = omega (arith, laws errata k .length-words v)
 
 options-widths : (k : ℕ) (fs : List Field) (vs : Args Optional fs) → length (joined (take k (optionWords fs vs))) ≤ widths (take k fs)
 options-widths zero fs vs = omega arith
@@ -205,34 +201,7 @@ words-put h ws flags put =
     let vs = propertiesOf (h .properties) in
     rw (put .flags, put .memory ∙ at-start (argsWords (select (present properties vs) properties) (chosen properties vs)) (zeros 22))
 
--- The words of a header, back: no property is bits, so a word is an argument as it stands
-
-abbrev plain : Field → Bool
-plain (fixed xs) = true
-plain (arg (number n)) = true
-plain (arg shortStr) = true
-plain (arg (bits places)) = false
-plain (arg login) = true
-plain (arg table) = true
-
-plain-fit : (k : Kind) (v : Pooled k) → plain (arg k) ≡ true → FlagFit k v
-plain-fit (number n) v e = tt
-plain-fit shortStr v e = tt
-plain-fit (bits places) v e = absurd (true-T e)
-plain-fit login v e = tt
-plain-fit table v e = tt
-
-plain-fits : (ps : List Bool) (fs : List Field) (vs : Args Pooled (select ps fs)) → every plain fs ≡ true → FlagsFit (select ps fs) vs
-unfolding select
-plain-fits [] fs vs e = tt
-plain-fits (p ∷ ps) [] vs e = tt
-plain-fits (true ∷ ps) (fixed xs ∷ fs) vs e = plain-fits ps fs vs e
-plain-fits (true ∷ ps) (arg k ∷ fs) vs e = let a = and-true (plain (arg k)) (every plain fs) e in (plain-fit k (vs .0) (a .0), plain-fits ps fs (vs .1) (a .1))
-plain-fits (false ∷ ps) (f ∷ fs) vs e = plain-fits ps fs vs (and-true (plain f) (every plain fs) e .1)
-
-no-bits : every plain properties ≡ true
-unfolding properties
-no-bits = refl
+-- The words of a header, back
 
 words-back : (c n : ℕ) (ps : List Bool) (vs : Args Pooled (select ps properties)) → length ps ≡ 13
     → let r = headerWords (header c n ps vs) in
@@ -242,7 +211,7 @@ words-back c n ps vs e =
     let same : ps ≡ flagsOf 13 (flagsNumber ps) = sym (ap (λ (w : ℕ). flagsOf w (flagsNumber ps)) (sym e) ∙ flags-of ps) in
     let small : flagsNumber ps < 2 ^ 13 = rw e at (flags-lt ps) in (
       small,
-      ap (header c n ps) (sym (args-words (select ps properties) vs (drop (length (argsWords (select ps properties) vs)) (zeros 22)) (plain-fits ps properties vs no-bits)))
+      ap (header c n ps) (sym (args-words (select ps properties) vs (drop (length (argsWords (select ps properties) vs)) (zeros 22))))
           ∙ ap (λ (x : List Bool). header c n x (argsFrom (select x properties) ws)) same,
     )
 

@@ -11,8 +11,9 @@ use Rattle.types.specs.Memory.{splice}
 use Rattle.types.specs.declared.Span.{Span}
 use Rattle.method.specs.Fields.{Kind, Args}
 use Rattle.method.specs.Properties.{properties, select, flagsNumber}
-use Rattle.method.specs.Words.{argWords, argsWords, spanFrom}
+use Rattle.method.specs.Words.{argWords, argsWords}
 use Rattle.method.specs.AnswerOf.{Optional, isThere, present, chosen}
+use Rattle.method.specs.Kinds.ShortStr.{spanFrom}
 use Rattle.method_words.specs.declared.properties.Done.{Done}
 use Rattle.method_words.specs.declared.headers.Rest.{Rest}
 

@@ -1,10 +1,10 @@
 -- A command and a content header as words, in wire order, and back. How an argument is words is said by specs/Words.antt of method.
 use mathlib.Core.Bool.{cond}
 use mathlib.Core.Option.{Option, none, some}
-use mathlib.Core.List.{List, [], _∷_, _++_}
-use Prim.Native.Nat.{ℕ, _^_, _%_}
+use mathlib.Core.List.{List, _++_}
+use Prim.Native.Nat.{ℕ}
 use lib.ListN.{length, drop}
-use Rattle.method.specs.Fields.{Kind, number, shortStr, bits, login, table, Field, fixed, arg, Pooled, Args}
+use Rattle.method.specs.Fields.{Kind, kind, Field, Pooled, Args, mapArgs}
 use Rattle.method.specs.Commands.{known, fieldsOf, Command, call}
 use Rattle.method.specs.Properties.{properties, select, flagsNumber, flagsOf, Header, header}
 use Rattle.method.specs.Words.{argsWords, argsFrom}
@@ -28,16 +28,10 @@ headerWords (header c n present vs) =
 -- Back: numbers are cut to their width, as the code turns words into arguments; what was read is not changed by it
 
 abbrev pub cutArg : (k : Kind) → Pooled k → Pooled k
-cutArg (number k) n = n % 256 ^ k
-cutArg shortStr v = v
-cutArg (bits places) flags = flags
-cutArg login x = x
-cutArg table n = n
+cutArg k v = kind k .cut v
 
 unfoldable pub cutArgs : (fs : List Field) → Args Pooled fs → Args Pooled fs
-cutArgs [] vs = tt
-cutArgs (fixed xs ∷ fs) vs = cutArgs fs vs
-cutArgs (arg k ∷ fs) vs = (cutArg k (vs .0), cutArgs fs (vs .1))
+cutArgs fs vs = mapArgs cutArg fs vs
 
 -- the command of a pair that is known
 unfoldable pub commandWith : ℕ → ℕ → List ℕ → Option (Command Pooled)

@@ -11,7 +11,7 @@ use lib.Seq.{drop-drop, getD-drop}
 use lib.Dec.{leb, eqb}
 use borrow.Author.Tests.{eqb-true, eqb-false}
 use types.Run.{OneOf}
-use Rattle.bits.specs.Flags.{bit, packBits}
+use Rattle.bits.specs.Flags.{bit}
 use Rattle.utf8.specs.Utf8.{utf8}
 use Rattle.types.specs.Answer.{Refusal, Answer}
 use Rattle.types.specs.Lookup.{row}
@@ -27,10 +27,11 @@ use Rattle.tables.specs.Letters.{Letters, errata}
 use Rattle.tables.specs.Writing.{judgeTable, writeTable}
 use Rattle.method.specs.Fields.{number, shortStr, bits, login, table, Field, fixed, arg}
 use Rattle.method.specs.Properties.{select, flagsOf}
-use Rattle.method.specs.Writing.{placed, argOctets, fieldOctets, judgeArgLength}
+use Rattle.method.specs.Writing.{argOctets, fieldOctets, judgeArgLength}
 use Rattle.method.specs.Pooled.{pooledMeanings, judgeArg}
-use Rattle.method.specs.Words.{width, widths, flagsFrom, argFrom, argsFrom}
+use Rattle.method.specs.Words.{width, widths, argFrom, argsFrom}
 use Rattle.method.specs.Layout.{fieldOf, numberWidth, places, fixedOctets}
+use Rattle.method.specs.Kinds.Bits.{octetOf, flagsFrom}
 use Rattle.table_writer.specs.Emitting.{nextOr, Emitted}
 use Rattle.table_writer.proofs.EmitLaws.{emitted, number-emitted, emitted-length, emitted-after, length-span}
 use Rattle.method_writer.specs.Sizes.{Size, octets, long, refused, sized, argMeaning, fieldSize, fieldsSize, octetsOf, octetsOfAll}
@@ -66,21 +67,21 @@ bit-odd n =
 
 -- the octet of flags, by the digit that says their places
 abbrev pub flagsOctet : ℕ → ℕ → ℕ
-flagsOctet digit n = packBits (placed (places digit) (flagsFrom (places digit) n))
+flagsOctet digit n = octetOf (places digit) (flagsFrom (places digit) n)
 
-flagsIn : (ps : List Bool) (digit n : ℕ) → places digit ≡ ps → flagsOctet digit n ≡ packBits (placed ps (flagsFrom ps n))
-flagsIn ps digit n e = ap (λ (qs : List Bool). packBits (placed qs (flagsFrom qs n))) e
+flagsIn : (ps : List Bool) (digit n : ℕ) → places digit ≡ ps → flagsOctet digit n ≡ octetOf ps (flagsFrom ps n)
+flagsIn ps digit n e = ap (λ (qs : List Bool). octetOf qs (flagsFrom qs n)) e
 
 pub flags-first : (digit n : ℕ) → OneOf (1 ∷ []) digit → flagsOctet digit n ≡ n % 2
-unfolding placed
+unfolding octetOf
 flags-first digit n o = flagsIn (true ∷ []) digit n (arm places (true ∷ []) (1 ∷ []) digit (refl, tt) o) ∙ omega (arith, bit-odd n)
 
 pub flags-second : (digit n : ℕ) → OneOf (2 ∷ []) digit → flagsOctet digit n ≡ n % 2 * 2
-unfolding placed
+unfolding octetOf
 flags-second digit n o = flagsIn (false ∷ true ∷ []) digit n (arm places (false ∷ true ∷ []) (2 ∷ []) digit (refl, tt) o) ∙ omega (arith, bit-odd n)
 
 pub flags-both : (digit n : ℕ) → Rest ((2 ∷ []) ∷ (1 ∷ []) ∷ []) digit → flagsOctet digit n ≡ n % 4
-unfolding placed
+unfolding octetOf
 flags-both digit n r =
     flagsIn (true ∷ true ∷ []) digit n (rest (true ∷ true ∷ []) ((2 ∷ []) ∷ (1 ∷ []) ∷ []) digit (row 1 (true ∷ []) ∷ row 2 (false ∷ true ∷ []) ∷ []) r tt)
     ∙ omega (arith, bit-odd n, bit-odd (n / 2))

@@ -9,7 +9,6 @@ use native.Mathlib.Omega.{arith}
 use native.Mathlib.Nat.{add-zero}
 use lib.ListN.{length, take, drop, getD, length-append}
 use lib.Seq.{getD-drop, drop-drop}
-use lib.Dec.{leb}
 use types.Run.{OneOf, miss}
 use denote.Enum.Declared.{tagOf}
 use Rattle.utf8.specs.Utf8.{Fault, fault, utf8}
@@ -27,17 +26,20 @@ use Rattle.table_writer.specs.Sizes.{capped, tapeSize}
 use Rattle.table_writer.proofs.SizeLaws.{span-length, sized-given}
 use Rattle.method.specs.Fields as field
 use Rattle.method.specs.Fields.{Kind, number, bits, login, Field, fixed, arg, Pooled}
-use Rattle.method.specs.Writing.{loginText, argOctets, fieldOctets, judgeArgLength, judgeLengths}
-use Rattle.method.specs.Pooled.{pooledMeaning, pooledMeanings, judgeText, judgeArg, judgeArgs}
-use Rattle.method.specs.Words.{width, widths, spanFrom, argFrom, argsFrom}
+use Rattle.method.specs.Writing.{argOctets, fieldOctets, judgeArgLength, judgeLengths}
+use Rattle.method.specs.Pooled.{pooledMeaning, pooledMeanings, judgeArg, judgeArgs}
+use Rattle.method.specs.Words.{width, widths, argFrom, argsFrom}
 use Rattle.method.specs.Properties.{select, flagsOf}
 use Rattle.method.specs.Layout.{fieldOf}
+use Rattle.method.specs.Kinds.Login.{loginText, judgeText}
+use Rattle.method.specs.Kinds.ShortStr.{spanFrom}
 use Rattle.method_writer.specs.Sizes.{Size, octets, long, refused, sized, argMeaning, argsMeaning, fieldSize, fieldsSize}
 use Rattle.method_writer.specs.AnswerOf.{answerOfSize}
 use Rattle.method_writer.specs.declared.sizes.FieldSize.{FieldSize}
 use Rattle.method_writer.specs.declared.sizes.FieldSize.the-variants as code
 use Rattle.method_writer.proofs.sizes.FieldSize.{the-type}
 use Rattle.method.proofs.FieldCodes.{Left, Present, all-left, none-left, present-left, absent-left, Few, few-octets}
+use Rattle.method.proofs.KindLaws.{laws}
 
 -- Answers
 
@@ -140,7 +142,7 @@ module _ (pool : List ℕ) (start len : ℕ) where
   span-outside more n h = sym (rw (leb-no (start + len) (length pool) h))
 
   module _ (inside : start + len ≤ length pool) where
-    pub text-scanned : (b : Bool) → utf8 (octetsOf pool span) ≡ b → sized (test b notUtf8 none) none len ≡ sized (judgeText errata pool [] span none) none len
+    pub text-scanned : (b : Bool) → utf8 (octetsOf pool span) ≡ b → sized (test b notUtf8 none) none len ≡ sized (judgeText pool span none) none len
     text-scanned b u = sym (rw (leb-yes (start + len) (length pool) inside, u))
 
     pub short-long : (n : ℕ) → 255 < len → refused shortStrTooLong ≡ sized (test (inPool pool start len) truncated (judgeShortStr (octetsOf pool span))) none n
@@ -194,7 +196,7 @@ module _ (pool tape ws : List ℕ) (j : ℕ) where
 
 -- A login: the user, then the password, then their lengths
 
-text-then : (pool : List ℕ) (v : Span) (more : Option Refusal) → judgeText errata pool [] v more ≡ orElse (judgeText errata pool [] v none) more
+text-then : (pool : List ℕ) (v : Span) (more : Option Refusal) → judgeText pool v more ≡ orElse (judgeText pool v none) more
 text-then pool v more = go (inPool pool (v .start) (v .len)) (utf8 (octetsOf pool v))
   where
     go : (a b : Bool) → test a truncated (test b notUtf8 more) ≡ orElse (test a truncated (test b notUtf8 none)) more
@@ -226,7 +228,7 @@ module _ (pool ws : List ℕ) (j : ℕ) where
   password = record { start = getD ws (j + 2) 0; len = getD ws (j + 3) 0 }
 
   abbrev judged : Span → Option Refusal
-  judged v = judgeText errata pool [] v none
+  judged v = judgeText pool v none
 
   abbrev text : List ℕ
   text = loginText (record { user = octetsOf pool user; password = octetsOf pool password })
@@ -322,31 +324,16 @@ module _ (pool tape ws : List ℕ) where
 -- No sum wraps
 
 module _ (pool tape ws : List ℕ) where
-  at-most-length : (n : ℕ) → judgeLength n ≡ none → n ≤ 4294967295
-  at-most-length n e = yes-leb n 4294967295 (test-none (leb n 4294967295) tooLong none e .0)
-
-  few-small : (f : Field) (m : ℕ) → Few f → octets m ≡ fieldSize errata pool tape f ws → m ≤ 4294967299
+  few-small : (f : Field) (m : ℕ) → Few errata f → octets m ≡ fieldSize errata pool tape f ws → m ≤ 4294967299
   unfolding fieldSize
   few-small (fixed xs) m h e = let s : m ≡ length xs = cc in omega arith
-  few-small (arg (number k)) m h e = omega (arith, sized-octets none none _ m e .2, length-octets k (argFrom (number k) ws))
-  few-small (arg field.shortStr) m h e =
-      let xs = octetsOf pool (spanFrom ws) in
-      let a = sized-octets (judgeArg errata pool tape field.shortStr (spanFrom ws)) none (length (shortStr xs)) m e in
-      let b = test-none (inPool pool (spanFrom ws .start) (spanFrom ws .len)) truncated (judgeShortStr xs) (a .0) in
-      let d = test-none (leb (length xs) 255) shortStrTooLong (test (utf8 xs) notUtf8 none) (b .1) in
-      omega (arith, a .2, yes-leb (length xs) 255 (d .0))
-  few-small (arg (bits places)) m h e = omega (arith, sized-octets none none _ m e .2)
-  few-small (arg login) m h e =
-      let x = argMeaning errata pool tape login ws in
-      let a = sized-octets (judgeArg errata pool tape login (argFrom login ws)) (judgeLength (length (loginText x))) (length (longStr (loginText x))) m e in
-      omega (arith, a .2, at-most-length (length (loginText x)) (a .1))
-  few-small (arg field.table) m h e =
-      let xs = body errata true (tapeMeaning errata pool tape) in
-      let a = sized-octets (judgeTable errata pool tape) (judgeLength (length xs)) (length (longStr xs)) m e in
-      omega (arith, a .2, at-most-length (length xs) (a .1))
+  few-small (arg k) m h e =
+      let x = argMeaning errata pool tape k ws in
+      let a = sized-octets (judgeArg errata pool tape k (argFrom k ws)) (judgeArgLength errata k x) (length (argOctets errata k x)) m e in
+      omega (arith, a .2, laws errata k .few h pool tape (argFrom k ws) (a .0) (a .1))
 
   pub size-small : (c m : ℕ) → octets m ≡ fieldSize errata pool tape (fieldOf c) ws → m ≤ 4294967299
-  size-small c m e = few-small (fieldOf c) m (few-octets c) e
+  size-small c m e = few-small (fieldOf c) m (few-octets errata c) e
 
 -- The loop over fields: what it has so far and what is left is the answer
 pub record Going (layout words pool tape : List ℕ) (present flags weight : ℕ) (tooLong : Bool) (size j i : ℕ) : Type 0 where

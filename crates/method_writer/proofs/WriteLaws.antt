@@ -4,14 +4,14 @@ use mathlib.Core.Bool.{Bool, true, false, not}
 use mathlib.Core.Logic.{_⊎_, inl, inr}
 use mathlib.Core.Option.{Option, none, some}
 use mathlib.Core.List.{List, [], _∷_, _++_, map, append-assoc}
-use Prim.Native.Nat.{ℕ, _+_, _-_, _*_, _≤_, _<_}
+use Prim.Native.Nat.{ℕ, _+_, _*_, _≤_, _<_}
 use native.Mathlib.Omega.{arith}
 use lib.ListN.{length, take, drop, length-append}
 use lib.Dec.{leb}
 use Rattle.types.specs.Answer as answer
 use Rattle.types.specs.Answer.{Refusal, Answer, given, tooLong, noSpace}
 use Rattle.types.specs.Octets as number
-use Rattle.types.specs.Judgement.{test, orElse}
+use Rattle.types.specs.Judgement.{orElse}
 use Rattle.types.specs.Memory.{splice, Outcome, outcome}
 use Rattle.types.proofs.Tests.{yes-leb, no-leb}
 use Rattle.types.proofs.Splice.{splice-after}
@@ -20,14 +20,13 @@ use Rattle.writers.proofs.WriterLaws.{write-full, write-given}
 use Rattle.tables.specs.Letters.{Letters, errata}
 use Rattle.method_words.specs.declared.Call.{Call}
 use Rattle.method_writer.specs.Calls.{writeCall}
-use Rattle.tables.specs.Writing.{body}
 use Rattle.table_writer.specs.Sizes as payload
 use Rattle.table_writer.specs.Emitting.{nextOr, Emitted}
 use Rattle.table_writer.proofs.EmitLaws.{number-emitted, emitted-length, emitted-after}
-use Rattle.method.specs.Fields.{Kind, number, shortStr, bits, login, table, Field, fixed, arg, Meaning, Pooled, Args}
+use Rattle.method.specs.Fields.{number, Field, fixed, arg, Meaning, Pooled, Args}
 use Rattle.method.specs.Commands.{commands, fieldsIn, known, fieldsOf, Command}
 use Rattle.method.specs.Properties.{properties, select, flagsNumber, flagsOf, Header}
-use Rattle.method.specs.Writing.{loginText, commandOctets, headerOctets, fieldOctets, judgeArgLength, judgeLengths}
+use Rattle.method.specs.Writing.{commandOctets, headerOctets, fieldOctets, judgeArgLength, judgeLengths}
 use Rattle.method.specs.Pooled.{judgeArgs, refusalOf, commandRefusal, headerRefusal, pooledCommandMeaning, pooledHeaderMeaning, writeCommand, writeHeader}
 use Rattle.method.specs.Words.{width, widths, argsFrom, commandFrom, headerFrom}
 use Rattle.method.specs.Layout.{fieldOf, layoutFields}
@@ -37,19 +36,9 @@ use Rattle.method.proofs.MethodLaws.{flags-number}
 use Rattle.method_writer.specs.Sizes.{Size, octets, long, refused, sized, argsMeaning, fieldSize, fieldsSize, octetsOfAll}
 use Rattle.method_writer.specs.Emitting.{Ready}
 use Rattle.method_writer.proofs.SizeLaws.{sized-octets, both, fields-size, no-fields-size, size-small}
+use Rattle.method.proofs.KindLaws.{laws}
 
 -- A length that is too great is refused by one number
-
-tested : (b : Bool) (r : Refusal) → test b tooLong none ≡ some r → r ≡ tooLong
-tested true r e = let z : _≡_ {A = ℕ} 0 1 = cc in absurd (omega arith)
-tested false r e = cc
-
-arg-long : (letters : Letters) (k : Kind) (v : Meaning k) (r : Refusal) → judgeArgLength letters k v ≡ some r → r ≡ tooLong
-arg-long letters (number n) v r e = let z : _≡_ {A = ℕ} 0 1 = cc in absurd (omega arith)
-arg-long letters shortStr v r e = let z : _≡_ {A = ℕ} 0 1 = cc in absurd (omega arith)
-arg-long letters (bits places) v r e = let z : _≡_ {A = ℕ} 0 1 = cc in absurd (omega arith)
-arg-long letters login v r e = tested (leb (length (loginText v)) 4294967295) r e
-arg-long letters table v r e = tested (leb (length (body letters true v)) 4294967295) r e
 
 lengths-long : (letters : Letters) (fs : List Field) (vs : Args Meaning fs) (r : Refusal) → judgeLengths letters fs vs ≡ some r → r ≡ tooLong
 unfolding judgeLengths
@@ -60,7 +49,7 @@ lengths-long letters (arg k ∷ fs) vs r e = first (judgeArgLength letters k (vs
     first : (o : Option Refusal) → judgeArgLength letters k (vs .0) ≡ o → orElse o (judgeLengths letters fs (vs .1)) ≡ some r
         → (judgeLengths letters fs (vs .1) ≡ some r → r ≡ tooLong) → r ≡ tooLong
     first none a h later = later h
-    first (some q) a h later = let same : q ≡ r = cc in sym same ∙ arg-long letters k (vs .0) q a
+    first (some q) a h later = let same : q ≡ r = cc in sym same ∙ laws letters k .long (vs .0) q a
 
 -- A number behind what is written
 pub number-after : (k n : ℕ) {xs : List ℕ} {at m r : ℕ} {out b c : List ℕ} {w : Answer Unit} → at + (length xs + k) ≤ length out → Emitted xs at out b m → outcome w c ≡ writeUint k n m b

@@ -4,16 +4,15 @@ ghost use mathlib.Core.List.{[], _++_, map};
 ghost use Prim.Native.Nat.{_+_, _≤_, _<_};
 ghost use lib.ListN.{length, take, drop};
 ghost use lib.Dec.{leb};
-ghost use Rattle.bits.specs.Flags.{packBits};
 ghost use Rattle.types.specs.Octets.{octets};
 ghost use Rattle.types.specs.Memory.{splice};
 ghost use Rattle.writers.specs.AnswerOf.{answerOfWritten};
 ghost use Rattle.tables.specs.Letters.{errata};
 ghost use Rattle.method.specs.Fields.{arg, shortStr, login};
 ghost use Rattle.method.specs.Properties.{select, flagsOf};
-ghost use Rattle.method.specs.Writing.{placed};
-ghost use Rattle.method.specs.Words.{width, widths, flagsFrom};
+ghost use Rattle.method.specs.Words.{width, widths};
 ghost use Rattle.method.specs.Layout.{fieldOf, numberWidth, places};
+ghost use Rattle.method.specs.Kinds.Bits.{octetOf, flagsFrom};
 ghost use Rattle.table_writer.specs.Emitting.{nextOr, Emitted};
 ghost use Rattle.method_writer.specs.Sizes.{fieldSize, fieldsSize, octetsOf, octetsOfAll};
 ghost use Rattle.method_writer.specs.Emitting.{Ready};
@@ -96,7 +95,7 @@ fn emit_short_str(out: &mut [u8], at: usize, pool: &[u8], words: &[u64], j: usiz
 // Flags in the places of the arguments.
 fn emit_bits(out: &mut [u8], at: usize, digit: u8, flags: u64) -> usize
     requires { ⌜ at + 1 ≤ length (now out) ⌝ }
-    ensures { λ r. ⌜ Emitted (octets 1 (packBits (placed (places digit) (flagsFrom (places digit) flags)))) at (now (out .entry)) (now (out .exit)) r ⌝ }
+    ensures { λ r. ⌜ Emitted (octets 1 (octetOf (places digit) (flagsFrom (places digit) flags))) at (now (out .entry)) (now (out .exit)) r ⌝ }
 {
     let octet = match digit {
         1 => flags % 2,

@@ -8,9 +8,10 @@ ghost use Rattle.types.specs.Strings.{octetsOf, judgeShortStr, judgeLength};
 ghost use Rattle.tables.specs.Letters.{errata};
 ghost use Rattle.method.specs.Fields.{arg, login, table};
 ghost use Rattle.method.specs.Properties.{select, flagsOf};
-ghost use Rattle.method.specs.Pooled.{judgeSpan, judgeText};
 ghost use Rattle.method.specs.Words.{width, widths};
 ghost use Rattle.method.specs.Layout.{fieldOf, numberWidth};
+ghost use Rattle.method.specs.Kinds.ShortStr.{judgeSpan};
+ghost use Rattle.method.specs.Kinds.Login.{judgeText};
 ghost use Rattle.method_writer.specs.Sizes.{sized, fieldSize, fieldsSize};
 ghost use Rattle.method_writer.specs.AnswerOf.{answerOfSize};
 use method::fixed::fixed_len;
@@ -30,7 +31,7 @@ const MAX_LENGTH: usize = 0xFFFF_FFFF;
 
 // Octets of a pool: the span, then UTF-8. A span outside the pool has fewer octets than it needs.
 fn size_text(pool: &[u8], start: usize, len: usize) -> FieldSize
-    ensures { λ r. ⌜ answerOfSize r ≡ sized (judgeText errata (now (pool .entry)) [] (record { start = start; len = len }) none) none len ⌝ }
+    ensures { λ r. ⌜ answerOfSize r ≡ sized (judgeText (now (pool .entry)) (record { start = start; len = len }) none) none len ⌝ }
 {
     if pool.len() < start {
         return FieldSize::Refused(WireError::Truncated);
@@ -46,7 +47,7 @@ fn size_text(pool: &[u8], start: usize, len: usize) -> FieldSize
 
 // The span, then the length, then UTF-8.
 fn size_short_str(pool: &[u8], start: usize, len: usize) -> FieldSize
-    ensures { λ r. ⌜ answerOfSize r ≡ sized (judgeSpan errata (now (pool .entry)) [] (record { start = start; len = len }) (judgeShortStr (octetsOf (now (pool .entry)) (record { start = start; len = len })))) none (1 + len) ⌝ }
+    ensures { λ r. ⌜ answerOfSize r ≡ sized (judgeSpan (now (pool .entry)) (record { start = start; len = len }) (judgeShortStr (octetsOf (now (pool .entry)) (record { start = start; len = len })))) none (1 + len) ⌝ }
 {
     if pool.len() < start {
         return FieldSize::Refused(WireError::Truncated);

@@ -11,8 +11,8 @@ use lib.Dec.{eqb}
 use lib.ListN.{length}
 use Rattle.types.specs.Lookup.{row}
 use Rattle.types.proofs.Arms.{Rest, rest}
-use Rattle.method.specs.Reading.{flagsIn}
 use Rattle.method.specs.Layout.{places}
+use Rattle.method.specs.Kinds.Bits.{Flags, flagsIn}
 use Rattle.method_reader.specs.Fields.{flagsOr}
 use Rattle.method_reader.proofs.fields.flags_in.Statement.{statement}
 use Rattle.method_reader.proofs.fields.flags_in.Tie as tie
@@ -27,20 +27,20 @@ past [] n h = rw (ne-eqb n 0 (λ e. absurd (omega arith)))
 past (true ∷ ps) n h = rw (past ps (n / 2) (omega (arith, two-pow-succ (length ps))))
 past (false ∷ ps) n h = rw (past ps (n / 2) (omega (arith, two-pow-succ (length ps)))) (either (eqb (n % 2) 1))
   where
-    either : (b : Bool) → cond {A = Option (List Bool)} b none none ≡ none
+    either : (b : Bool) → cond {A = Option (Flags ps)} b none none ≡ none
     either true = refl
     either false = refl
 
-spare : (ps : List Bool) (n : ℕ) → 2 ^ length ps ≤ n → 255 ≡ flagsOr 255 (flagsIn ps n)
-spare ps n h = sym (ap (flagsOr 255) (past ps n h))
+spare : (ps : List Bool) (n : ℕ) → 2 ^ length ps ≤ n → 255 ≡ flagsOr ps 255 (flagsIn ps n)
+spare ps n h = sym (ap (flagsOr ps 255) (past ps n h))
 
-lowest : (n : ℕ) → n < 2 → n ≡ flagsOr 255 (flagsIn (true ∷ []) n)
+lowest : (n : ℕ) → n < 2 → n ≡ flagsOr (true ∷ []) 255 (flagsIn (true ∷ []) n)
 unfolding flagsIn
 lowest zero h = refl
 lowest (suc zero) h = refl
 lowest (suc (suc n)) h = absurd (omega arith)
 
-two : (n : ℕ) → n < 4 → n ≡ flagsOr 255 (flagsIn (true ∷ true ∷ []) n)
+two : (n : ℕ) → n < 4 → n ≡ flagsOr (true ∷ true ∷ []) 255 (flagsIn (true ∷ true ∷ []) n)
 unfolding flagsIn
 two zero h = refl
 two (suc zero) h = refl
@@ -48,15 +48,15 @@ two (suc (suc zero)) h = refl
 two (suc (suc (suc zero))) h = refl
 two (suc (suc (suc (suc n)))) h = absurd (omega arith)
 
-none-set : _≡_ {A = ℕ} 0 (flagsOr 255 (flagsIn (false ∷ true ∷ []) 0))
+none-set : _≡_ {A = ℕ} 0 (flagsOr (false ∷ true ∷ []) 255 (flagsIn (false ∷ true ∷ []) 0))
 unfolding flagsIn
 none-set = refl
 
-one-set : _≡_ {A = ℕ} 1 (flagsOr 255 (flagsIn (false ∷ true ∷ []) 2))
+one-set : _≡_ {A = ℕ} 1 (flagsOr (false ∷ true ∷ []) 255 (flagsIn (false ∷ true ∷ []) 2))
 unfolding flagsIn
 one-set = refl
 
-second : (n : ℕ) → (n ≡ 0 → ⊥) → (n ≡ 2 → ⊥) → 255 ≡ flagsOr 255 (flagsIn (false ∷ true ∷ []) n)
+second : (n : ℕ) → (n ≡ 0 → ⊥) → (n ≡ 2 → ⊥) → 255 ≡ flagsOr (false ∷ true ∷ []) 255 (flagsIn (false ∷ true ∷ []) n)
 unfolding flagsIn
 second zero z t = absurd (z refl)
 second (suc zero) z t = refl

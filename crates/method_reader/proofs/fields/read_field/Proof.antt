@@ -1,4 +1,5 @@
 -- `method_reader::fields::read_field` meets its contract: each arm is the kind of the field. Assumes nothing.
+use mathlib.Core.Path.{refl}
 use Prim.Native.Nat.{_%_}
 use borrow.Author.Needs.{needs}
 use Rattle.method.specs.Fields.{number, shortStr, bits, login}
@@ -32,7 +33,7 @@ same-length c = search needs
 returns : tie.Need-returns
 returns c =
     let a = c .before .before .before .before .before .before .before .args in
-    rw (code-arm (a .field) 0 (c .before .before .before .before .match .keys1), ← (roomless (number (numberWidth (a .field % 16))) (a .s .now) (a .at) (a .room) tt)) (c .before .before .store-number .ensures)
+    rw (code-arm (a .field) 0 (c .before .before .before .before .match .keys1), ← (roomless (number (numberWidth (a .field % 16))) (a .s .now) (a .at) (a .room) refl)) (c .before .before .store-number .ensures)
 
 same-length-2 : tie.Need-same-length-2
 same-length-2 c = search needs
@@ -40,7 +41,7 @@ same-length-2 c = search needs
 returns-2 : tie.Need-returns-2
 returns-2 c =
     let a = c .before .before .before .before .before .before .before .args in
-    rw (code-arm (a .field) 5 (c .before .before .before .before .match .keys2), ← (roomless (shortStr) (a .s .now) (a .at) (a .room) tt)) (c .before .before .store-short-str .ensures)
+    rw (code-arm (a .field) 5 (c .before .before .before .before .match .keys2), ← (roomless (shortStr) (a .s .now) (a .at) (a .room) refl)) (c .before .before .store-short-str .ensures)
 
 same-length-3 : tie.Need-same-length-3
 same-length-3 c = search needs
@@ -48,7 +49,7 @@ same-length-3 c = search needs
 returns-3 : tie.Need-returns-3
 returns-3 c =
     let a = c .before .before .before .before .before .before .before .args in
-    rw (code-arm (a .field) 11 (c .before .before .before .before .match .keys3), ← (roomless (bits (places (a .field % 16))) (a .s .now) (a .at) (a .room) tt)) (c .before .before .store-bits .ensures)
+    rw (code-arm (a .field) 11 (c .before .before .before .before .match .keys3), ← (roomless (bits (places (a .field % 16))) (a .s .now) (a .at) (a .room) refl)) (c .before .before .store-bits .ensures)
 
 same-length-4 : tie.Need-same-length-4
 same-length-4 c = search needs
@@ -56,7 +57,7 @@ same-length-4 c = search needs
 returns-4 : tie.Need-returns-4
 returns-4 c =
     let a = c .before .before .before .before .before .before .before .args in
-    rw (code-arm (a .field) 13 (c .before .before .before .before .match .keys4), ← (roomless (login) (a .s .now) (a .at) (a .room) tt)) (c .before .before .store-login .ensures)
+    rw (code-arm (a .field) 13 (c .before .before .before .before .match .keys4), ← (roomless (login) (a .s .now) (a .at) (a .room) refl)) (c .before .before .store-login .ensures)
 
 same-length-5 : tie.Need-same-length-5
 same-length-5 c = search needs

@@ -6,7 +6,7 @@ use Prim.Native.Nat.{_+_, _*_, _<_}
 use native.Mathlib.Omega.{arith}
 use borrow.Author.Needs.{needs}
 use mir.Val.{boolByte}
-use Rattle.bits.specs.Flags.{packBits}
+use Rattle.method.specs.Kinds.Bits.{packed}
 use Rattle.method.specs.Commands.{commands, fieldsOf}
 use Rattle.method.specs.Words.{argsWords}
 use Rattle.method.specs.AnswerOf.{commandOf}
@@ -21,11 +21,11 @@ arm e f h = rw (e, f) h
 
 -- flags in a word
 
-flag : (p : Bool) → boolByte p ≡ packBits (p ∷ [])
+flag : (p : Bool) → boolByte p ≡ packed (true ∷ []) (p, tt)
 flag true = refl
 flag false = refl
 
-two-flags : (p q : Bool) → boolByte p + 2 * boolByte q ≡ packBits (p ∷ q ∷ [])
+two-flags : (p q : Bool) → boolByte p + 2 * boolByte q ≡ packed (true ∷ true ∷ []) (p, (q, tt))
 two-flags true true = refl
 two-flags true false = refl
 two-flags false true = refl
