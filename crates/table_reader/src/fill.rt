@@ -78,7 +78,8 @@ fn fill_value(s: &[u8], at: usize, levels: usize, name: Span, tape: &mut [u64], 
     ensures { λ r. ⌜ Stored (recordsOf name) (valueAt errata levels (now (s .entry)) at (length (now (s .entry)))) k (now (tape .entry)) (now (tape .exit)) r ⌝ }
 {
     let letter = s[at];
-    match kind_of(letter) {
+    let kind = kind_of(letter);
+    match kind {
         Kind::Container(named) => {
             match (Cursor { at: at + 1 }).long_str(s) {
                 ReadSpan::Refused(_) => Filled { at, record: k },
@@ -91,7 +92,7 @@ fn fill_value(s: &[u8], at: usize, levels: usize, name: Span, tape: &mut [u64], 
             }
         }
         _ => {
-            let leaf = leaf_at(s, at + 1, kind_of(letter));
+            let leaf = leaf_at(s, at + 1, kind);
             put_record(tape, k, letter, name, leaf.first, leaf.second, 0);
             Filled {
                 at: leaf.next,

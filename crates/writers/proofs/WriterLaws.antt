@@ -1,12 +1,13 @@
 -- What a writer puts, and the three ways out of it: refused, no space, written.
 use mathlib.Core.Path.{_≡_, refl, sym, ap, _∙_}
 use mathlib.Core.Bool.{true, false}
-use mathlib.Core.List.{List, [], _∷_, _++_}
+use mathlib.Core.List.{List, [], _∷_, _++_, append-assoc}
 use mathlib.Core.Option.{Option, none, some}
 use Prim.Native.Nat.{ℕ, suc, _+_, _-_, _/_, _%_, _≤_, _<_}
 use native.Mathlib.Omega.{arith}
-use lib.ListN.{length, set, length-append}
-use lib.Seq.{paste, take-length}
+use native.Mathlib.Numerals.{add-one}
+use lib.ListN.{length, set, getD, take, drop, length-append, length-drop}
+use lib.Seq.{paste, take-length, take-all, length-take-le, take-suc, take-suc-set, take-add, take-at, drop-at, drop-drop, getD-drop}
 use Rattle.utf8.specs.Utf8.{utf8}
 use Rattle.types.specs.Answer.{Refusal, given, refused, shortStrTooLong, notUtf8, tooLong, noSpace}
 use Rattle.types.specs.Octets.{octets}
@@ -14,7 +15,7 @@ use Rattle.types.specs.Strings.{shortStr, longStr}
 use Rattle.types.specs.Memory.{splice, Outcome, outcome}
 use Rattle.writers.specs.Writers.{writeAt, writeUint, writeShortStr, writeLongStr}
 use Rattle.types.proofs.Tests.{leb-yes, leb-no}
-use Rattle.types.proofs.Splice.{splice-before, splice-after, splice-sets}
+use Rattle.types.proofs.Splice.{splice-nil, splice-length, splice-before, splice-after, splice-sets}
 use Rattle.types.proofs.NumberLaws.{length-octets}
 
 -- the last octet of a number is put, and then the octets before it
@@ -33,6 +34,77 @@ put-octet at i n out up h =
 pub paste-all : (out : List ℕ) (at : ℕ) (s : List ℕ) (i : ℕ) → i ≡ length s → paste out at s i ≡ splice at s out
 unfolding splice
 paste-all out at s i e = rw (e, take-length)
+
+-- octets by way of a part: one more of them is in it, and all of them are out of it
+pub part-next : (part s : List ℕ) (start i : ℕ) → i < length part → start + i < length s → take i part ≡ take i (drop start s)
+    → take (i + 1) (set part i (getD s (start + i) 0)) ≡ take (i + 1) (drop start s)
+part-next part s start i h k e =
+    let rest : List ℕ = drop start s in
+    let j : i < length rest = omega (arith, length-drop start s) in
+    rw (add-one i)
+    (take-suc-set part i (getD s (start + i) 0) h
+    ∙ ap (λ (r : List ℕ). r ++ getD s (start + i) 0 ∷ []) e
+    ∙ ap (λ (x : ℕ). take i rest ++ x ∷ []) (sym (getD-drop start s i 0))
+    ∙ sym (take-suc rest i 0 j))
+
+pub part-all : (out part s : List ℕ) (to start k : ℕ) → start + k ≤ length s → take k part ≡ take k (drop start s)
+    → paste out to part k ≡ splice to (take k (drop start s)) out
+unfolding splice
+part-all out part s to start k h e = rw (e, length-take-le k (drop start s) (omega (arith, length-drop start s)))
+
+-- a piece over one that is no longer
+splice-over : (at : ℕ) (xs ys l : List ℕ) → at + length xs ≤ length l → length xs ≤ length ys → splice at ys (splice at xs l) ≡ splice at ys l
+unfolding splice
+splice-over at xs ys l h k =
+    let rest : List ℕ = drop (at + length xs) l in
+    let front : length (take at l) ≡ at = length-take-le at l (omega arith) in
+    let head : length (take at l ++ xs) ≡ at + length xs = length-append (take at l) xs ∙ ap (λ (n : ℕ). n + length xs) front in
+    let more : at + length ys ≡ at + length xs + (length ys - length xs) = omega arith in
+    ap (λ (r : List ℕ). r ++ ys ++ drop (at + length ys) (take at l ++ xs ++ rest))
+    (ap (take at) (append-assoc (take at l) xs rest) ∙ take-at (take at l) (xs ++ rest) at front)
+    ∙ ap (λ (r : List ℕ). take at l ++ ys ++ r)
+    (ap (λ (n : ℕ). drop n (take at l ++ xs ++ rest)) more
+    ∙ sym (drop-drop (length ys - length xs) (at + length xs) (take at l ++ xs ++ rest))
+    ∙ ap (drop (length ys - length xs)) (drop-at (take at l ++ xs) rest (at + length xs) head)
+    ∙ drop-drop (length ys - length xs) (at + length xs) l
+    ∙ ap (λ (n : ℕ). drop n l) (sym more))
+
+-- octets put in parts, one behind another, are one piece
+module _ (out : List ℕ) (at : ℕ) (s : List ℕ) (fits : at + length s ≤ length out) where
+  pub parts-none : out ≡ splice at (take 0 s) out
+  parts-none = sym (splice-nil at out)
+
+  parts-join : (i k : ℕ) → i + k ≤ length s → splice (at + i) (take k (drop i s)) (splice at (take i s) out) ≡ splice at (take (i + k) s) out
+  parts-join i k h =
+      let n : length (take i s) ≡ i = length-take-le i s (omega arith) in
+      ap (λ (m : ℕ). splice (at + m) (take k (drop i s)) (splice at (take i s) out)) (sym n)
+      ∙ splice-after at (take i s) (take k (drop i s)) out (omega arith)
+      ∙ ap (λ (r : List ℕ). splice at r out) (sym (take-add i k s))
+
+  -- the next k octets
+  pub parts-next : {l o : List ℕ} (i k : ℕ) → i + k ≤ length s → l ≡ splice at (take i s) out → o ≡ splice (at + i) (take k (drop i s)) l → o ≡ splice at (take (i + k) s) out
+  parts-next i k h e f = f ∙ ap (splice (at + i) (take k (drop i s))) e ∙ parts-join i k h
+
+  pub parts-all : {l : List ℕ} (i : ℕ) → length s ≤ i → l ≡ splice at (take i s) out → l ≡ splice at s out
+  parts-all i h e = e ∙ ap (λ (r : List ℕ). splice at r out) (take-all i s h)
+
+  -- the first k octets, and the last k over them
+  pub parts-ends : {l o : List ℕ} (k : ℕ) → k ≤ length s → length s ≤ k + k → l ≡ splice at (take k s) out → o ≡ splice (at + (length s - k)) (take k (drop (length s - k) s)) l → o ≡ splice at s out
+  parts-ends k u h e f =
+      let m : ℕ = length s - k in
+      let own : m + (k - m) ≡ k = omega arith in
+      let xs : List ℕ = take (k - m) (drop m s) in
+      let ys : List ℕ = take k (drop m s) in
+      let a : length xs ≡ k - m = length-take-le (k - m) (drop m s) (omega (arith, length-drop m s)) in
+      let b : length ys ≡ k = length-take-le k (drop m s) (omega (arith, length-drop m s)) in
+      let t : length (take m s) ≡ m = length-take-le m s (omega arith) in
+      let n : length (splice at (take m s) out) ≡ length out = splice-length at (take m s) [] out (omega arith) in
+      parts-all (m + k) (omega arith)
+      (f ∙ ap (splice (at + m) ys) e
+      ∙ ap (λ (j : ℕ). splice (at + m) ys (splice at (take j s) out)) (sym own)
+      ∙ ap (splice (at + m) ys) (sym (parts-join m (k - m) (omega arith)))
+      ∙ splice-over (at + m) xs ys (splice at (take m s) out) (omega arith) (omega arith)
+      ∙ parts-join m k (omega arith))
 
 module _ (xs : List ℕ) (at : ℕ) (out : List ℕ) where
   pub write-refused : (r : Refusal) → writeAt (some r) xs at out ≡ outcome (refused r) out

@@ -3,7 +3,7 @@ ghost use mathlib.Core.Path.{_≡_};
 ghost use mathlib.Core.List.{_++_};
 ghost use mathlib.Core.Option.{none};
 ghost use Prim.Native.Nat.{_+_, _≤_};
-ghost use lib.ListN.{length};
+ghost use lib.ListN.{length, take, drop};
 ghost use Rattle.types.specs.Octets.{octets};
 ghost use Rattle.bits.specs.Signed.{twos};
 ghost use Rattle.types.specs.Memory.{splice, outcome};
@@ -36,8 +36,11 @@ fn put_number(out: &mut [u8], at: usize, k: usize, n: u64)
     }
 }
 
-// Puts octets where they all have space.
-fn put_octets(out: &mut [u8], at: usize, s: &[u8])
+// The most octets that are moved at once.
+const PART: usize = 0x1_0000;
+
+// Octets one by one.
+fn put_each(out: &mut [u8], at: usize, s: &[u8])
     requires { ⌜ at + length (now s) ≤ length (now out) ⌝ }
     ensures { λ r. ⌜ now (out .exit) ≡ splice at (now (s .entry)) (now (out .entry)) ⌝ }
 {
@@ -45,6 +48,68 @@ fn put_octets(out: &mut [u8], at: usize, s: &[u8])
     while i < s.len() {
         out[at + i] = s[i];
         i += 1;
+    }
+}
+
+// Moves k octets by way of a part. It overlaps neither slice, so the compiler makes one move of the two loops, in registers or by
+// memmove, and the part goes; of a loop from slice to slice it makes no memmove, since the two might overlap.
+fn put_part(out: &mut [u8], to: usize, s: &[u8], from: usize, k: usize)
+    requires { ⌜ (k ≤ 65536) × (from + k ≤ length (now s)) × (to + k ≤ length (now out)) ⌝ }
+    ensures { λ r. ⌜ now (out .exit) ≡ splice to (take k (drop from (now (s .entry)))) (now (out .entry)) ⌝ }
+{
+    let mut part = [0u8; PART];
+    let mut i = 0;
+    while i < k {
+        part[i] = s[from + i];
+        i += 1;
+    }
+    let mut j = 0;
+    while j < k {
+        out[to + j] = part[j];
+        j += 1;
+    }
+}
+
+// The first k octets and the last k, which may overlap: two moves for every length from k to twice k.
+fn put_ends(out: &mut [u8], at: usize, s: &[u8], k: usize)
+    requires { ⌜ (k ≤ 65536) × (k ≤ length (now s)) × (length (now s) ≤ k + k) × (at + length (now s) ≤ length (now out)) ⌝ }
+    ensures { λ r. ⌜ now (out .exit) ≡ splice at (now (s .entry)) (now (out .entry)) ⌝ }
+{
+    let last = s.len() - k;
+    put_part(out, at, s, 0, k);
+    put_part(out, at + last, s, last, k);
+}
+
+// Any number of octets, a part at a time.
+fn put_parts(out: &mut [u8], at: usize, s: &[u8])
+    requires { ⌜ at + length (now s) ≤ length (now out) ⌝ }
+    ensures { λ r. ⌜ now (out .exit) ≡ splice at (now (s .entry)) (now (out .entry)) ⌝ }
+{
+    let n = s.len();
+    let mut i = 0;
+    while PART < n - i {
+        put_part(out, at + i, s, i, PART);
+        i += PART;
+    }
+    put_part(out, at + i, s, i, n - i);
+}
+
+// Puts octets where they all have space.
+fn put_octets(out: &mut [u8], at: usize, s: &[u8])
+    requires { ⌜ at + length (now s) ≤ length (now out) ⌝ }
+    ensures { λ r. ⌜ now (out .exit) ≡ splice at (now (s .entry)) (now (out .entry)) ⌝ }
+{
+    let n = s.len();
+    if n < 4 {
+        put_each(out, at, s);
+    } else if n <= 8 {
+        put_ends(out, at, s, 4);
+    } else if n <= 16 {
+        put_ends(out, at, s, 8);
+    } else if n <= 32 {
+        put_ends(out, at, s, 16);
+    } else {
+        put_parts(out, at, s);
     }
 }
 

@@ -98,8 +98,8 @@ ready : (t : ℕ) (c : fill-value-lts.After-shared-slice-known2 (fill-value-call
 ready t c = record { fits = c .before .before .before .pre .1 }
 
 kind : (t : ℕ) (c : fill-value-lts.After-known-told (fill-value-calls t) (fill-value-at t) fill-value.Post)
-    → let a = c .before .before .before .before .before .before .before .args in kindOf errata (getD (a .s .now) (a .at) 0) ≡ container (c .before .named .given .0 .0)
-kind t c = sym (c .before .before .before .kind-of .ensures) ∙ ap answerOfKind (c .before .named .given .1)
+    → let a = c .before .before .before .before .before .before .before .args in kindOf errata (getD (a .s .now) (a .at) 0) ≡ container (c .before .kind .given .0 .0)
+kind t c = sym (c .before .before .before .kind-of .ensures) ∙ ap answerOfKind (c .before .kind .given .1)
 
 is-leaf : (t : ℕ) (c : fill-value-lts.At-match-keys2 (fill-value-calls t) (fill-value-at t) fill-value.Post)
     → let a = c .before .before .before .before .before .args in (b : Bool) → kindOf errata (getD (a .s .now) (a .at) 0) ≡ container b → ⊥
@@ -115,8 +115,8 @@ fill-value-shared-slice-read-letter t c = omega (arith, letter-in (ready t c))
 fill-value-kind-of-requires : (t : ℕ) → fill-value-lts.Need-kind-of-requires (fill-value-calls t) (fill-value-at t) fill-value.Post
 fill-value-kind-of-requires t c κs = search needs
 
-fill-value-enum-known-named : (t : ℕ) → fill-value-lts.Need-enum-known-named (fill-value-calls t) (fill-value-at t) fill-value.Post
-fill-value-enum-known-named t c = search needs
+fill-value-enum-known-kind : (t : ℕ) → fill-value-lts.Need-enum-known-kind (fill-value-calls t) (fill-value-at t) fill-value.Post
+fill-value-enum-known-kind t c = search needs
 
 fill-value-add-t19 : (t : ℕ) → fill-value-lts.Need-add-t19 (fill-value-calls t) (fill-value-at t) fill-value.Post
 fill-value-add-t19 t c = omega (arith, letter-in (ready t (c .before .before .before .before)))
@@ -148,17 +148,14 @@ fill-value-put-record-requires t c κs = body-own (ready t (c .before .before .b
 fill-value-add-leaf-at : (t : ℕ) → fill-value-lts.Need-add-leaf-at (fill-value-calls t) (fill-value-at t) fill-value.Post
 fill-value-add-leaf-at t c = omega (arith, letter-in (ready t (c .before .before)))
 
-fill-value-kind-of-requires-2 : (t : ℕ) → fill-value-lts.Need-kind-of-requires-2 (fill-value-calls t) (fill-value-at t) fill-value.Post
-fill-value-kind-of-requires-2 t c κs = search needs
-
 fill-value-leaf-at-requires : (t : ℕ) → fill-value-lts.Need-leaf-at-requires (fill-value-calls t) (fill-value-at t) fill-value.Post
 fill-value-leaf-at-requires t c κs = search needs
 
 fill-value-put-record-requires-2 : (t : ℕ) → fill-value-lts.Need-put-record-requires-2 (fill-value-calls t) (fill-value-at t) fill-value.Post
-fill-value-put-record-requires-2 t c κs = leaf-room (ready t (c .before .before .before .before .before)) (is-leaf t (c .before .before .before))
+fill-value-put-record-requires-2 t c κs = leaf-room (ready t (c .before .before .before .before)) (is-leaf t (c .before .before))
 
 fill-value-add-t28 : (t : ℕ) → fill-value-lts.Need-add-t28 (fill-value-calls t) (fill-value-at t) fill-value.Post
-fill-value-add-t28 t c = omega (arith, leaf-room (ready t (c .before .before .before .before .before .before .before .before)) (is-leaf t (c .before .before .before .before .before .before)))
+fill-value-add-t28 t c = omega (arith, leaf-room (ready t (c .before .before .before .before .before .before .before)) (is-leaf t (c .before .before .before .before .before)))
 
 fill-value-returns : (t : ℕ) → fill-value-lts.Need-returns (fill-value-calls t) (fill-value-at t) fill-value.Post
 fill-value-returns t c = absurd (no-entries _ _ _ _ _ _ _ (sym (c .before .before .long-str .ensures) ∙ ap answerOfSpan (c .enum-told .given .1)) (body-fits (ready t (c .before .before .before .before .before .before .before)) _ (kind t (c .before .before .before))))
@@ -173,9 +170,9 @@ fill-value-same-length-2 : (t : ℕ) → fill-value-lts.Need-same-length-2 (fill
 fill-value-same-length-2 t c = c .before .before .put-record2 .kept .0
 
 fill-value-returns-3 : (t : ℕ) → fill-value-lts.Need-returns-3 (fill-value-calls t) (fill-value-at t) fill-value.Post
-fill-value-returns-3 t c = let a = c .before .before .before .before .before .before .before .before .before .before .before .args in
-    leaf-stored (ready t (c .before .before .before .before .before .before .before .before)) (is-leaf t (c .before .before .before .before .before .before)) (c .before .before .before .before .leaf-at .result) (c .before .before .put-record2 .last .0)
-    (c .before .before .before .before .leaf-at .ensures ∙ ap (λ k. leafOf (a .at + 1) (payloadOf k (a .s .now) (a .at + 1))) (c .before .before .before .before .before .kind-of2 .ensures)) (c .before .before .put-record2 .ensures)
+fill-value-returns-3 t c = let a = c .before .before .before .before .before .before .before .before .before .before .args in
+    leaf-stored (ready t (c .before .before .before .before .before .before .before)) (is-leaf t (c .before .before .before .before .before)) (c .before .before .before .before .leaf-at .result) (c .before .before .put-record2 .last .0)
+    (c .before .before .before .before .leaf-at .ensures ∙ ap (λ k. leafOf (a .at + 1) (payloadOf k (a .s .now) (a .at + 1))) (c .before .before .before .before .before .before .kind-of .ensures)) (c .before .before .put-record2 .ensures)
 
 pub +fill-entries+fill-value-spec : {M : Type 1} → statement M
 +fill-entries+fill-value-spec = close μ-fill-entries μ-fill-value (λ t. fill-entries-lts.spec (fill-entries-calls t)
@@ -195,7 +192,7 @@ pub +fill-entries+fill-value-spec : {M : Type 1} → statement M
     fill-value.Post
     (fill-value-shared-slice-read-letter t)
     (fill-value-kind-of-requires t)
-    (fill-value-enum-known-named t)
+    (fill-value-enum-known-kind t)
     (fill-value-add-t19 t)
     (fill-value-long-str-requires t)
     (fill-value-enum-told t)
@@ -206,7 +203,6 @@ pub +fill-entries+fill-value-spec : {M : Type 1} → statement M
     (fill-value-sub-put-record t)
     (fill-value-put-record-requires t)
     (fill-value-add-leaf-at t)
-    (fill-value-kind-of-requires-2 t)
     (fill-value-leaf-at-requires t)
     (fill-value-put-record-requires-2 t)
     (fill-value-add-t28 t)

@@ -1,4 +1,4 @@
--- `writers::put_octets` meets its contract. Assumes nothing.
+-- `writers::put_each` meets its contract. Assumes nothing.
 use mathlib.Core.Path.{_≡_, refl, sym, ap, _∙_}
 use mathlib.Core.List.{List}
 use Prim.Native.Nat.{_≤_, _+_, _-_}
@@ -8,8 +8,8 @@ use borrow.Author.Needs.{needs}
 use lib.ListN.{length, set, getD, length-set}
 use lib.Seq.{paste, paste-zero, paste-suc}
 use Rattle.writers.proofs.WriterLaws.{paste-all}
-use Rattle.writers.proofs.put_octets.Statement.{statement}
-use Rattle.writers.proofs.put_octets.Tie as tie
+use Rattle.writers.proofs.put_each.Statement.{statement}
+use Rattle.writers.proofs.put_each.Tie as tie
 
 abbrev Inv-loop : tie.InvT-loop
 Inv-loop out₀ at s i₀ out i = (i ≤ length s) × (out ≡ paste out₀ at s i) × (length out ≡ length out₀)
@@ -56,8 +56,8 @@ returns c =
     let end : l .i ≡ length (a .s .now) = omega arith in
     l .inv .1 ∙ paste-all (a .out .now) (a .at) (a .s .now) (l .i) end
 
-pub put-octets-spec : {M : Type 1} → statement M
-put-octets-spec =
+pub put-each-spec : {M : Type 1} → statement M
+put-each-spec =
     tie.close
     (tie.spec
     Inv-loop
