@@ -2,11 +2,8 @@
 // one of these but 40 over a tape of a given number of records, whose words are shown. The tape is lent to all of them here.
 ghost use Prim.Native.Nat.{_≤_};
 ghost use lib.ListN.{length};
-use crate::step;
 use lines::lent;
 use lines::line;
-use method_read_cases::commands;
-use method_read_cases::headers;
 use table_read_cases::room_for;
 use table_read_cases::words_for;
 
@@ -18,9 +15,7 @@ fn read(op: u8, s: &[u8], tape: &mut [u64], by_words: bool, out: &mut [u8], at: 
 {
     match op {
         0x01..=0x02 => table_read_cases::answer(op, s, tape, by_words, out, at),
-        0x07 => headers::answer(s, tape, by_words, out, at),
-        0x40 => commands::answer(s, tape, out, at),
-        _ => step::answer(s, tape, by_words, out, at),
+        _ => payload_cases::reading::answer(op, s, tape, by_words, out, at),
     }
 }
 

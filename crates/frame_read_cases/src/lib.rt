@@ -2,5 +2,4 @@
 // `lines` has their form.
 pub mod decode;
 pub mod lending;
-mod step;
 pub mod walk;

@@ -14,9 +14,17 @@ fn outcome_in(
     tape: &mut [u64],
 ) -> Outcome {
     match op {
-        0x30..=0x31 => method_write_cases::outcome(op, octets, marks, space, lent, tape),
+        0x30..=0x31 | 0x43 => payload_cases::writing::outcome(
+            op,
+            octets,
+            marks,
+            false,
+            space,
+            lent,
+            tape,
+        ),
         0x33..=0x34 => table_write_cases::outcome(op, octets, marks, space, lent, tape),
-        0x32 | 0x43 => crate::outcome(op, octets, marks, space, lent, tape),
+        0x32 => crate::outcome(octets, marks, space, lent),
         _ => Outcome::NoCase,
     }
 }
@@ -46,9 +54,16 @@ fn repeated(
 ) -> Outcome {
     let op = line::operation(octets, marks);
     match op {
-        0x31 => method_write_cases::outcome_repeated(op, octets, marks, space, lent, tape),
+        0x31 | 0x43 => payload_cases::writing::outcome(
+            op,
+            octets,
+            marks,
+            true,
+            Space::Octets(space),
+            lent,
+            tape,
+        ),
         0x33..=0x34 => table_write_cases::outcome_repeated(op, octets, marks, space, lent, tape),
-        0x43 => crate::outcome_repeated(octets, marks, space, lent, tape),
         _ => Outcome::NoCase,
     }
 }

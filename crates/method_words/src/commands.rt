@@ -24,19 +24,21 @@ fn span_at(words: [u64; 8], j: usize) -> Span
 fn command_of(class: u16, method: u16, words: [u64; 8]) -> Command
     ensures { λ r. ⌜ commandOf r ≡ orTxSelect (commandWith class method words) ⌝ }
 {
+    let text = span_at(words, 0);
+    let after_number = span_at(words, 1);
+    let second = span_at(words, 2);
+    let third = span_at(words, 4);
     match class as u64 * 100_000 + method as u64 {
         10_00011 => Command::ConnectionStartOk {
-            user: span_at(words, 0),
-            password: span_at(words, 2),
+            user: text,
+            password: second,
         },
         10_00031 => Command::ConnectionTuneOk {
             channel_max: (words[0] % 0x1_0000) as u16,
             frame_max: (words[1] % 0x1_0000_0000) as u32,
             heartbeat: (words[2] % 0x1_0000) as u16,
         },
-        10_00040 => Command::ConnectionOpen {
-            vhost: span_at(words, 0),
-        },
+        10_00040 => Command::ConnectionOpen { vhost: text },
         20_00010 => Command::ChannelOpen,
         20_00020 => Command::ChannelFlow {
             active: words[0] % 2 == 1,
@@ -46,58 +48,54 @@ fn command_of(class: u16, method: u16, words: [u64; 8]) -> Command
         },
         20_00040 => Command::ChannelClose {
             reply_code: (words[0] % 0x1_0000) as u16,
-            reply_text: span_at(words, 1),
+            reply_text: after_number,
         },
         20_00041 => Command::ChannelCloseOk,
         40_00010 => Command::ExchangeDeclare {
-            name: span_at(words, 0),
-            kind: span_at(words, 2),
+            name: text,
+            kind: second,
             durable: words[4] % 2 == 1,
         },
         40_00020 => Command::ExchangeDelete {
-            name: span_at(words, 0),
+            name: text,
             if_unused: words[2] % 2 == 1,
         },
         50_00010 => Command::QueueDeclare {
-            queue: span_at(words, 0),
+            queue: text,
             durable: words[2] % 2 == 1,
         },
         50_00020 => Command::QueueBind {
-            queue: span_at(words, 0),
-            exchange: span_at(words, 2),
-            routing_key: span_at(words, 4),
+            queue: text,
+            exchange: second,
+            routing_key: third,
         },
         50_00050 => Command::QueueUnbind {
-            queue: span_at(words, 0),
-            exchange: span_at(words, 2),
-            routing_key: span_at(words, 4),
+            queue: text,
+            exchange: second,
+            routing_key: third,
         },
-        50_00030 => Command::QueuePurge {
-            queue: span_at(words, 0),
-        },
-        50_00040 => Command::QueueDelete {
-            queue: span_at(words, 0),
-        },
+        50_00030 => Command::QueuePurge { queue: text },
+        50_00040 => Command::QueueDelete { queue: text },
         60_00010 => Command::BasicQos {
             prefetch_size: (words[0] % 0x1_0000_0000) as u32,
             prefetch_count: (words[1] % 0x1_0000) as u16,
             global: words[2] % 2 == 1,
         },
         60_00020 => Command::BasicConsume {
-            queue: span_at(words, 0),
-            consumer_tag: span_at(words, 2),
+            queue: text,
+            consumer_tag: second,
             no_ack: words[4] % 2 == 1,
         },
         60_00030 => Command::BasicCancel {
-            consumer_tag: span_at(words, 0),
+            consumer_tag: text,
             no_wait: words[2] % 2 == 1,
         },
         60_00040 => Command::BasicPublish {
-            exchange: span_at(words, 0),
-            routing_key: span_at(words, 2),
+            exchange: text,
+            routing_key: second,
         },
         60_00070 => Command::BasicGet {
-            queue: span_at(words, 0),
+            queue: text,
             no_ack: words[2] % 2 == 1,
         },
         60_00080 => Command::BasicAck {

@@ -1,10 +1,10 @@
--- `method_write_cases::pool::move_spans` meets its contract. Assumes nothing.
+-- `payload_cases::table::move_spans` meets its contract. Assumes nothing.
 use mathlib.Core.Path.{_≡_}
 use Prim.Native.Nat.{_-_}
 use lib.ListN.{length}
 use borrow.Author.Needs.{needs}
-use Rattle.method_write_cases.proofs.pool.move_spans.Statement.{statement}
-use Rattle.method_write_cases.proofs.pool.move_spans.Tie as tie
+use Rattle.payload_cases.proofs.table.move_spans.Statement.{statement}
+use Rattle.payload_cases.proofs.table.move_spans.Tie as tie
 
 abbrev Inv-loop : tie.InvT-loop
 Inv-loop tape₀ pool k₀ tape k = length tape ≡ length tape₀
@@ -19,8 +19,8 @@ move-spans-spec =
     Inv-loop
     μ-loop
     (λ c. search needs)
-    (λ c. search needs)
-    (λ c. search needs)
+    (λ c κs. search needs)
+    (λ c κs. search needs)
     (λ c. search needs)
     (λ c. search needs)
     (λ c. search needs)

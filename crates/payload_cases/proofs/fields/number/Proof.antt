@@ -1,15 +1,15 @@
--- `method_write_cases::arguments::number` meets its contract. Assumes nothing.
+-- `payload_cases::fields::number` meets its contract. Assumes nothing.
 use Prim.Native.Nat.{_-_}
 use lib.ListN.{length}
 use borrow.Author.Needs.{needs}
-use Rattle.method_write_cases.proofs.arguments.number.Statement.{statement}
-use Rattle.method_write_cases.proofs.arguments.number.Tie as tie
+use Rattle.payload_cases.proofs.fields.number.Statement.{statement}
+use Rattle.payload_cases.proofs.fields.number.Tie as tie
 
 abbrev Inv-loop : tie.InvT-loop
-Inv-loop octets marks k s n₀ i₀ n i = Unit {0}
+Inv-loop s n₀ i₀ n i = Unit {0}
 
 abbrev μ-loop : tie.MeasureT-loop
-μ-loop octets marks k s n₀ i₀ n i = length s - i
+μ-loop s n₀ i₀ n i = length s - i
 
 pub number-spec : {M : Type 1} → statement M
 number-spec =
@@ -20,8 +20,7 @@ number-spec =
     (λ c. search needs)
     (λ c. search needs)
     (λ c. search needs)
-    (λ c. search needs)
-    (λ c. search needs)
+    (λ c κs. search needs)
     (λ c. search needs)
     (λ c. search needs)
     (λ c. search needs)
