@@ -1,5 +1,6 @@
 //! The Rust and the port on the same inputs, in one process. README.md says what is measured and how.
 use crate::types::{Reader, WireError, Writer};
+use std::cell::RefCell;
 use std::hint::black_box;
 use std::time::{Duration, Instant};
 
@@ -31,9 +32,36 @@ type ReaderNext<T> = fn(&mut Reader) -> Result<T, WireError>;
 /// Operations in a turn, each at a place of its own.
 const TURN: usize = 16;
 const SAMPLES: usize = 500;
+/// What is taken from the system's memory differs a little from turn to turn.
+const COUNTED_SAMPLES: usize = 5;
 const SAMPLE: Duration = Duration::from_micros(200);
 
-/// One side of a line. A turn gives the sum of its answers; `best` is in nanoseconds an operation.
+/// What the tables show: nanoseconds, or the instructions that callgrind has counted. For these the driver runs twice: first under
+/// callgrind, a turn of each side in a sample, then with callgrind's figures, in the same order.
+enum Measure {
+    Time,
+    Turn,
+    Counts(Box<dyn Iterator<Item = f64>>),
+}
+
+thread_local! {
+    static MEASURE: RefCell<Measure> = const { RefCell::new(Measure::Time) };
+}
+
+/// The heading of a side's figures.
+pub fn heading(side: &str) -> String {
+    let unit = MEASURE.with_borrow(|measure| if let Measure::Time = measure { "ns" } else { "Ir" });
+    format!("{side}, {unit}")
+}
+
+/// callgrind counts what happens in here and nothing else (bench/instructions).
+#[unsafe(no_mangle)]
+#[inline(never)]
+fn counted_turn(turn: &mut dyn FnMut() -> u64) -> u64 {
+    turn()
+}
+
+/// One side of a line. A turn gives the sum of its answers; `best` is in nanoseconds or instructions an operation.
 pub struct Side {
     turn: Box<dyn FnMut() -> u64>,
     operations: usize,
@@ -53,6 +81,16 @@ impl Side {
     }
 
     pub fn sample(&mut self) {
+        MEASURE.with_borrow_mut(|measure| match measure {
+            Measure::Time => self.time(),
+            Measure::Turn => _ = black_box(counted_turn(&mut self.turn)),
+            Measure::Counts(counts) => {
+                self.best = self.best.min(counts.next().unwrap() / self.operations as f64);
+            }
+        });
+    }
+
+    fn time(&mut self) {
         let start = Instant::now();
         for _ in 0..self.turns {
             black_box((self.turn)());
@@ -248,24 +286,40 @@ fn lines() -> Vec<Line> {
     lines
 }
 
+/// Without an argument times are measured; with "turn" a sample is one turn, for callgrind to count; else the argument is the
+/// file of its counts.
 pub fn run() {
+    let measure = match std::env::args().nth(1) {
+        None => Measure::Time,
+        Some(word) if word == "turn" => Measure::Turn,
+        Some(file) => {
+            let counts: Vec<f64> = std::fs::read_to_string(file)
+                .unwrap()
+                .lines()
+                .map(|line| line.parse().unwrap())
+                .collect();
+            Measure::Counts(Box::new(counts.into_iter()))
+        }
+    };
+    let samples = if let Measure::Time = measure { SAMPLES } else { COUNTED_SAMPLES };
+    MEASURE.set(measure);
     let mut lines = lines();
-    for _ in 0..SAMPLES {
+    for _ in 0..samples {
         for line in &mut lines {
             line.rust.sample();
             line.port.sample();
         }
     }
-    println!("| {:<54} | Rust, ns | port, ns | Rust/port |", "");
+    println!("| {:<54} | {} | {} | Rust/port |", "", heading("Rust"), heading("port"));
     println!("|{:-<56}|---------:|---------:|----------:|", "");
     for line in lines {
         let (what, rust, port) = (line.what, line.rust.best, line.port.best);
         println!("| {what:<54} | {rust:>8.2} | {port:>8.2} | {:>9.2} |", rust / port);
     }
     println!();
-    crate::tables::run(SAMPLES);
+    crate::tables::run(samples);
     println!();
-    crate::methods::run(SAMPLES);
+    crate::methods::run(samples);
     println!();
-    crate::frames::run(SAMPLES);
+    crate::frames::run(samples);
 }

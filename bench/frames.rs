@@ -1,11 +1,11 @@
 //! Frames: the Rust, the port and, for bodies, memcpy on the same octets.
-use crate::bench::{Side, Words};
+use crate::bench::{Side, Words, heading};
 use crate::frame::{Frame, FrameType};
 use crate::method::{basic_ack, parse_content_header};
 use std::hint::black_box;
 
 /// A payload as words: crates/payload_words.
-type Payload = [u64; 26];
+pub type Payload = [u64; 26];
 
 unsafe extern "C" {
     fn amqp_walk(
@@ -17,7 +17,7 @@ unsafe extern "C" {
         register_len: usize,
         words: &mut Words,
     ) -> u32;
-    fn amqp_read_frame(
+    pub fn amqp_read_frame(
         s: *const u8,
         len: usize,
         at: usize,
@@ -27,7 +27,7 @@ unsafe extern "C" {
         payload: &mut Payload,
         words: &mut Words,
     ) -> u32;
-    fn amqp_write_frame(
+    pub fn amqp_write_frame(
         out: *mut u8,
         len: usize,
         at: usize,
@@ -184,7 +184,8 @@ pub fn run(samples: usize) {
             line.port.sample();
         }
     }
-    println!("| {:<44} |  octets | Rust, ns | memcpy, ns | port, ns | Rust/port |", "");
+    let [rust, memcpy, port] = ["Rust", "memcpy", "port"].map(heading);
+    println!("| {:<44} |  octets | {rust} | {memcpy} | {port} | Rust/port |", "");
     println!("|{:-<46}|--------:|---------:|-----------:|---------:|----------:|", "");
     for line in lines {
         let (rust, port) = (line.rust.best, line.port.best);

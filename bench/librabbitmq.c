@@ -1,12 +1,13 @@
-/* librabbitmq's codec of tables and its decoder of properties, behind pointers and lengths. What it reads goes into a pool that is recycled after each call, so
+/* librabbitmq's codecs of tables and of properties, behind pointers and lengths. What it reads goes into a pool that is recycled after each call, so
  * that no memory is taken from the system or given back within the time measured. */
 #include <amqp.h>
 #include <amqp_framing.h>
 
 enum { SLOTS = 8 };
 
-static amqp_pool_t pool, kept_pools[SLOTS];
+static amqp_pool_t pool, kept_pools[SLOTS], properties_pools[SLOTS];
 static amqp_table_t kept[SLOTS];
+static void *kept_properties[SLOTS];
 
 static void begin(void) {
     static int begun;
@@ -47,4 +48,17 @@ uint32_t librabbitmq_properties(uint16_t class_id, const uint8_t *octets, size_t
     uint32_t flags = status == 0 ? ((amqp_basic_properties_t *)decoded)->_flags : 0;
     recycle_amqp_pool(&pool);
     return flags;
+}
+
+/* Decodes properties and keeps them for librabbitmq_write_properties: 1, or 0 if they are refused. Their strings point into the octets. */
+size_t librabbitmq_keep_properties(size_t slot, uint16_t class_id, const uint8_t *octets, size_t len) {
+    init_amqp_pool(&properties_pools[slot], 1 << 16);
+    amqp_bytes_t encoded = {len, (void *)octets};
+    return amqp_decode_properties(class_id, &properties_pools[slot], encoded, &kept_properties[slot]) == 0;
+}
+
+/* Octets written, from the flags on, or 0. */
+size_t librabbitmq_write_properties(size_t slot, uint16_t class_id, uint8_t *out, size_t len) {
+    int written = amqp_encode_properties(class_id, kept_properties[slot], (amqp_bytes_t){len, out});
+    return written < 0 ? 0 : (size_t)written;
 }

@@ -1,5 +1,7 @@
-//! Content headers and commands: the Rust, the port and, for reading headers, librabbitmq on the same octets.
+//! Content headers and commands: the Rust, the port and, for headers, librabbitmq on the same octets.
 use crate::bench::{Side, Words};
+use crate::frame::{Frame, FrameType};
+use crate::frames::{Payload, amqp_read_frame, amqp_write_frame};
 use crate::method::*;
 use crate::tables::{Line, print, sample};
 use std::hint::black_box;
@@ -32,6 +34,8 @@ unsafe extern "C" {
 #[cfg(librabbitmq)]
 unsafe extern "C" {
     fn librabbitmq_properties(class: u16, octets: *const u8, len: usize) -> u32;
+    fn librabbitmq_keep_properties(slot: usize, class: u16, octets: *const u8, len: usize) -> usize;
+    fn librabbitmq_write_properties(slot: usize, class: u16, out: *mut u8, len: usize) -> usize;
 }
 
 type Headers = Vec<&'static [u8]>;
@@ -94,6 +98,63 @@ fn headers(what: &str, headers: Headers) -> Line {
         port: Side::new(headers.len(), move || {
             black_box(&port).iter().map(|octets| read_port(octets, &mut tape)[2]).sum()
         }),
+    }
+}
+
+/// The properties of a header alone; each header is kept in a slot of its own.
+#[cfg(librabbitmq)]
+fn librabbitmq_writer(slot: usize, header: &'static [u8]) -> Option<Side> {
+    let class = u16::from_be_bytes([header[0], header[1]]);
+    let properties = &header[12..];
+    let mut out = vec![0; properties.len()];
+    let mut write = move || unsafe { librabbitmq_write_properties(slot, class, out.as_mut_ptr(), out.len()) as u64 };
+    assert_eq!(unsafe { librabbitmq_keep_properties(slot, class, properties.as_ptr(), properties.len()) }, 1);
+    assert_eq!(write(), properties.len() as u64);
+    Some(Side::new(1, write))
+}
+
+#[cfg(not(librabbitmq))]
+fn librabbitmq_writer(_: usize, _: &'static [u8]) -> Option<Side> {
+    None
+}
+
+/// A frame of channel 1 from its payload in words; strings are spans of the pool.
+fn write_frame_port(out: &mut [u8], payload: &Payload, pool: &[u8], tape: &[u64]) -> u64 {
+    let (mut words, n) = ([0; 4], out.len());
+    let (pool, pool_len, tape, tape_len) = (pool.as_ptr(), pool.len(), tape.as_ptr(), tape.len());
+    let code = unsafe {
+        amqp_write_frame(out.as_mut_ptr(), n, 0, 1, payload, pool, pool_len, tape, tape_len, &mut words)
+    };
+    assert_eq!((code, words[0]), (0, n as u64));
+    words[0]
+}
+
+/// The frame of a content header. The port writes it from the words that it has read.
+fn header_frame(slot: usize, what: &str, header: &'static [u8]) -> Line {
+    let class = u16::from_be_bytes([header[0], header[1]]);
+    let (size, properties) = parse_content_header(header).unwrap();
+    let rust = move || {
+        let payload = content_header_with_props(class, size, black_box(&properties)).unwrap();
+        Frame { frame_type: FrameType::Header, channel: 1, payload }.encode()
+    };
+    let frame: &'static [u8] = rust().leak();
+    assert_eq!(frame[7..frame.len() - 1], *header, "{what}: the Rust writes other octets");
+    let (mut tape, mut payload, mut words) = (vec![0; 6 * 1024], [0; 26], [0; 4]);
+    let (lent, lent_len) = (tape.as_mut_ptr(), tape.len());
+    let code = unsafe {
+        amqp_read_frame(frame.as_ptr(), frame.len(), 0, lent, lent_len, 0, &mut payload, &mut words)
+    };
+    assert_eq!(code, 0, "{what}");
+    tape.truncate(words[3] as usize * 6);
+    let mut out = vec![0; frame.len()];
+    write_frame_port(&mut out, &payload, frame, &tape);
+    assert_eq!(out, frame, "{what}: the port writes other octets");
+    Line {
+        what: format!("write the frame of {what}"),
+        octets: frame.len(),
+        rust: Side::new(1, move || black_box(rust()).len() as u64),
+        librabbitmq: librabbitmq_writer(slot, header),
+        port: Side::new(1, move || write_frame_port(&mut out, black_box(&payload), frame, black_box(&tape))),
     }
 }
 
@@ -198,12 +259,17 @@ fn commands() -> Line {
 pub fn run(samples: usize) {
     let recorded = recorded();
     let only = |keep: &dyn Fn(&[u8]) -> bool| -> Headers { recorded.iter().copied().filter(|octets| keep(octets)).collect() };
+    let first = |len| recorded.iter().copied().find(|octets| octets.len() == len).unwrap();
     let mut lines = vec![
         headers("the 40 recorded headers, on average", recorded.clone()),
         headers("those of 14 octets, no property", only(&|octets| octets.len() == 14)),
         headers("those of 25, a table of 1 entry", only(&|octets| octets.len() == 25)),
         headers("those of 225, all properties", only(&|octets| octets.len() == 225)),
         headers("those of 632, the table of 19 entries", only(&|octets| octets.len() == 632)),
+        header_frame(0, "that of 14", first(14)),
+        header_frame(1, "that of 25", first(25)),
+        header_frame(2, "that of 225", first(225)),
+        header_frame(3, "that of 632", first(632)),
         commands(),
     ];
     sample(&mut lines, samples);

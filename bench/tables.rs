@@ -1,5 +1,5 @@
 //! Field tables: the Rust, the port and, where it is installed, librabbitmq on the same octets.
-use crate::bench::{Side, Words};
+use crate::bench::{Side, Words, heading};
 use crate::types::{FieldValue, Reader, Writer};
 use std::hint::black_box;
 
@@ -179,7 +179,8 @@ pub fn sample(lines: &mut [Line], samples: usize) {
 }
 
 pub fn print(lines: Vec<Line>) {
-    println!("| {:<42} | octets | Rust, ns | librabbitmq, ns | port, ns | Rust/port | librabbitmq/port |", "");
+    let [rust, librabbitmq, port] = ["Rust", "librabbitmq", "port"].map(heading);
+    println!("| {:<42} | octets | {rust} | {librabbitmq} | {port} | Rust/port | librabbitmq/port |", "");
     println!("|{:-<44}|-------:|---------:|----------------:|---------:|----------:|-----------------:|", "");
     for line in lines {
         let (rust, port) = (line.rust.best, line.port.best);

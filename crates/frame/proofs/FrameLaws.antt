@@ -8,7 +8,7 @@ use native.Mathlib.Nat.{add-zero}
 use lib.ListN.{length, take, getD, length-append}
 use lib.Seq.{length-take-le}
 use lib.Dec.{leb, ltb, eqb}
-use Rattle.types.specs.Answer.{Answer, given, refused, truncated, notWritten, unsupportedFieldType, andThen, need}
+use Rattle.types.specs.Answer.{Answer, given, refused, truncated, notWritten, unsupportedFieldType, tapeFull, andThen, need}
 use Rattle.types.specs.Octets.{numberAt, octets}
 use Rattle.types.specs.declared.Span.{Span}
 use Rattle.types.proofs.Tests.{leb-yes, leb-no, yes-leb, decide}
@@ -242,6 +242,11 @@ module _ (letters : Letters) where
   pub walk-step-is : (s : List ℕ) (p slots room : ℕ) → zero < slots → walkStepAt letters s p slots room ≡ stepAt letters s p room
   unfolding walkStepAt stepAt
   walk-step-is s p slots room h = rw (leb-yes 1 slots h)
+
+  -- where none is left, a frame that is decoded is TapeFull, whatever its payload
+  pub register-first : (s : List ℕ) (p room : ℕ) (f : Frame) (next : ℕ) → decodeAt s p ≡ given f next → walkStepAt letters s p 0 room ≡ refused tapeFull
+  unfolding walkStepAt
+  register-first s p room f next e = rw e
 
   -- and its tape records are in the room
   payload-room : (t : ℕ) (s : List ℕ) (p room ch : ℕ) (x : Payload Located Span) (q : ℕ) → payloadAt letters t s p room ≡ given x q → length (payloadWithTape ch x .tape) ≤ room
