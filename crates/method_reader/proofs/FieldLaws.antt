@@ -75,7 +75,7 @@ roomless k s p room h = rw (tableless k h .no-room errata s p room)
 -- One turn: a field, then the fields left
 
 -- the last table that has records, behind a field at p with so many
-abbrev placeAfter : ℕ → ℕ → TablePlace → TablePlace
+abbrev pub placeAfter : ℕ → ℕ → TablePlace → TablePlace
 placeAfter own p last = cond (eqb own 0) last (record { records = own; start = p })
 
 own-tape : (k : Kind) (v : Located k) → used k (pooledArg k v) ≡ length (argTape k v)
@@ -113,7 +113,7 @@ module _ (j : ℕ) (before stored : List ℕ) (r : ReadField) where
   answer-given (refused x) own q h g go = let z : _≡_ {A = ℕ} 0 1 = cc in absurd (omega arith)
 
 -- words before those of the fields behind
-abbrev behind : List ℕ → Answer FieldsRead → Answer FieldsRead
+abbrev pub behind : List ℕ → Answer FieldsRead → Answer FieldsRead
 behind ws a = andThen a (λ y n. given (record { words = ws ++ y .words; table = y .table }) n)
 
 stored-behind : (ws : List ℕ) (a : Answer FieldsRead) (j : ℕ) (before after : List ℕ) (r : ReadFields) → j + length ws ≤ length before
@@ -143,15 +143,15 @@ module _ (s : List ℕ) (p room : ℕ) where
       rw (← w) (omega (arith, own-tape k v, a .fits), own-width k (pooledArg k v)))
 
 module _ (fs : List Field) (s : List ℕ) (p room : ℕ) (last : TablePlace) where
-  scan-refused : (f : Field) (e : Refusal) → fieldAt errata f s p room ≡ refused e → scanAt errata (f ∷ fs) s p room last ≡ refused e
+  pub field-refused : (f : Field) (e : Refusal) → fieldAt errata f s p room ≡ refused e → scanAt errata (f ∷ fs) s p room last ≡ refused e
   unfolding fieldAt scanAt fieldsAt
-  scan-refused (fixed xs) e h = rw (then-stop (fixedAt xs s p) _ e h)
-  scan-refused (arg k) e h = rw (then-stop (argAt errata k s p room) _ e h)
+  field-refused (fixed xs) e h = rw (then-stop (fixedAt xs s p) _ e h)
+  field-refused (arg k) e h = rw (then-stop (argAt errata k s p room) _ e h)
 
-  scan-given : (f : Field) (x : FieldRead) (q : ℕ) → fieldAt errata f s p room ≡ given x q
+  pub field-given : (f : Field) (x : FieldRead) (q : ℕ) → fieldAt errata f s p room ≡ given x q
       → scanAt errata (f ∷ fs) s p room last ≡ behind (x .words) (scanAt errata fs s q (room - x .records) (placeAfter (x .records) p last))
   unfolding fieldAt scanAt fieldsAt argsWords pooledArgs lastTable
-  scan-given (fixed xs) x q h =
+  field-given (fixed xs) x q h =
       then-go (fixedAt xs s p) _ x q h
       (λ u m e1 h1.
       let w = given-value (record { words = []; records = 0 }) x m q h1 in
@@ -163,7 +163,7 @@ module _ (fs : List Field) (s : List ℕ) (p room : ℕ) (last : TablePlace) whe
           ≡ behind [] (andThen b (λ vs q. given (record { words = argsWords fs (pooledArgs fs vs); table = lastTable fs vs last }) q))
       none (given vs n) = refl
       none (refused e) = refl
-  scan-given (arg k) x q h =
+  field-given (arg k) x q h =
       then-go (argAt errata k s p room) _ x q h
       (λ v m e1 h1.
       let y : FieldRead = record { words = argWords k (pooledArg k v); records = used k (pooledArg k v) } in
@@ -184,7 +184,7 @@ module _ (fs : List Field) (s : List ℕ) (p room : ℕ) (last : TablePlace) whe
       → FieldsStored (scanAt errata (f ∷ fs) s p room last) j before after r
   turn-given f x q j before stored e n l after r k =
       let wide = (field-fits s p room f x q e) .1 in
-      rw (scan-given f x q e)
+      rw (field-given f x q e)
       (stored-behind (x .words) (scanAt errata fs s q (room - x .records) (placeAfter (x .records) p last)) j before after r (omega (arith, wide)) (rw (wide, ← n) k))
 
 -- The fields left
@@ -252,7 +252,7 @@ module _ {layout : List ℕ} {present : ℕ} {s : List ℕ} {from room : ℕ} {w
             → AllStored layout present s from room words₀ after r
         turn-refused e b after r k =
             let f = answer-refused j words stored q (fieldAt errata here s at left) e b g in
-            go .rest after r (rw (turn .first, scan-refused (turn .others) s at left last here e f) k)
+            go .rest after r (rw (turn .first, field-refused (turn .others) s at left last here e f) k)
 
         module _ (own next : ℕ) (b : answerOfField q ≡ given own next) where
           pub own-fits : own ≤ left

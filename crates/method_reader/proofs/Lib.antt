@@ -2,6 +2,7 @@
 pub mod ReaderLaws
 pub mod FieldLaws
 pub mod PropertyLaws
+pub mod OnePassLaws
 pub mod CommandLaws
 pub mod KeptLaws
 pub mod LoginLaws

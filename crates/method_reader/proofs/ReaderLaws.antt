@@ -83,7 +83,7 @@ tables (arg k ∷ fs) = isTable k + tables fs
 pub command-tables : (c m : ℕ) → tables (fieldsOf c m) ≤ 1
 command-tables c m = yes-leb (tables (fieldsOf c m)) 1 (every-command (λ fs. leb (tables fs) 1) c m refl (unfold commands in refl))
 
-select-tables : (ps : List Bool) (fs : List Field) → tables (select ps fs) ≤ tables fs
+pub select-tables : (ps : List Bool) (fs : List Field) → tables (select ps fs) ≤ tables fs
 unfolding select
 select-tables [] fs = omega arith
 select-tables (p ∷ ps) [] = omega arith
@@ -97,7 +97,7 @@ property-tables ps =
     let e : tables properties ≡ 1 = unfold properties in refl in
     omega (arith, select-tables ps properties)
 
-no-tables : (fs : List Field) (vs : Args Located fs) (last : TablePlace) → tables fs ≡ 0 → (lastTable fs vs last ≡ last) × (tapeOf fs vs ≡ [])
+pub no-tables : (fs : List Field) (vs : Args Located fs) (last : TablePlace) → tables fs ≡ 0 → (lastTable fs vs last ≡ last) × (tapeOf fs vs ≡ [])
 unfolding lastTable tapeOf
 no-tables [] vs last e = (refl, refl)
 no-tables (fixed xs ∷ fs) vs last e = no-tables fs vs last e
@@ -112,7 +112,7 @@ pub record Filled (letters : Letters) (s : List ℕ) (place : TablePlace) (used 
 
 module _ (letters : Letters) (s : List ℕ) (used : ℕ) (tape : List ℕ) where
   -- a table that was read at p is filled, or it has no records and the tape is left
-  one-table : (p q : ℕ) (t : TableIn) → argAt letters table s p (roomOf used tape) ≡ given t q → Filled letters s (tableAfter table t noTable) used tape (flatten (t .entries))
+  pub one-table : (p q : ℕ) (t : TableIn) → argAt letters table s p (roomOf used tape) ≡ given t q → Filled letters s (tableAfter table t noTable) used tape (flatten (t .entries))
   unfolding argAt
   one-table p q t e =
       then-go (tableAt letters s p (roomOf used tape)) _ t q e

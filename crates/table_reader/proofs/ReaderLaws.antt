@@ -4,6 +4,7 @@ use mathlib.Core.Bool.{true, false}
 use mathlib.Core.List.{List, []}
 use Prim.Native.Nat.{ℕ, zero, suc, _+_, _*_, _≤_, _<_}
 use native.Mathlib.Omega.{arith}
+use borrow.Author.Tests.{eq-eqb, ne-eqb}
 use lib.ListN.{length}
 use Rattle.types.specs.Answer.{Answer, Refusal, given, refused, andThen}
 use Rattle.types.specs.Memory.{splice, outcome}
@@ -19,6 +20,9 @@ use Rattle.tables.proofs.ReadingLaws.{table-move, value-move, lone-entries}
 use Rattle.tables.proofs.TapeLaws.{length-flatten}
 use Rattle.table_reader.specs.Counting.{counting, countRecords}
 use Rattle.table_reader.specs.Filling.{Fits, Stored, Holds}
+use Rattle.table_reader.specs.Ending.{endingAt, readTableTo}
+use Rattle.table_reader.specs.AnswerOf.{answerOfRecords}
+use Rattle.table_reader.specs.declared.ReadRecords.{ReadRecords}
 use Rattle.table_reader.specs.declared.fill.Filled.{Filled}
 use Rattle.table_reader.proofs.FillLaws.{value-whole, container-whole}
 
@@ -56,6 +60,11 @@ module _ (letters : Letters) (s : List ℕ) (at used : ℕ) (tape : List ℕ) wh
   abbrev valueRead : Answer LocatedTable
   valueRead = loneValueAt letters s at (roomOf used tape)
 
+  -- what the first pass told of it, from its answer
+  pub judged-table : (free : ℕ) (r x : ReadRecords) → free ≡ roomOf used tape → answerOfRecords r ≡ countRecords (tableAt letters s at free) → r ≡ x
+      → countRecords tableRead ≡ answerOfRecords x
+  judged-table free r x h e same = ap (λ (m : ℕ). countRecords (tableAt letters s at m)) (sym h) ∙ sym e ∙ ap answerOfRecords same
+
   pub table-refused : (r : Refusal) → countRecords tableRead ≡ refused r → outcome (refused r) tape ≡ readTable letters s at used tape
   unfolding readTable
   table-refused r e = not-filled tableRead used tape r e
@@ -90,6 +99,24 @@ module _ (letters : Letters) (s : List ℕ) (at used : ℕ) (tape : List ℕ) wh
         let a = count-given tableRead k n e in
         let stored : Holds (flatten (a .0)) used n tape after r = rw (table-whole (a .0) (a .1)) at h in
         filled tableRead used tape after (a .0) k n (a .1) (a .2) (stored .memory)
+
+  -- a table that is filled only where it ends at a given position
+  module _ (end : ℕ) where
+    pub ended-refused : (r : Refusal) → countRecords tableRead ≡ refused r → outcome (refused r) tape ≡ readTableTo letters s at end used tape
+    unfolding readTableTo
+    ended-refused r e = ap (endingAt end tape) (table-refused r e)
+
+    pub ended-here : (k n : ℕ) (after : List ℕ) → n ≡ end → outcome (given (withRecords k) n) after ≡ readTable letters s at used tape
+        → outcome (given (withRecords k) n) after ≡ readTableTo letters s at end used tape
+    unfolding readTableTo
+    ended-here k n after h e = rw (← e, eq-eqb n end h)
+
+    pub ended-elsewhere : (k n : ℕ) → countRecords tableRead ≡ given (withRecords k) n → (n ≡ end → ⊥)
+        → outcome (given (withRecords k) n) tape ≡ readTableTo letters s at end used tape
+    unfolding readTableTo readTable
+    ended-elsewhere k n e h =
+        let a = count-given tableRead k n e in
+        rw (a .1, ne-eqb n end h, length-flatten (a .0), a .2)
 
   -- a lone value, as the value that it is
   lone-given : (a : Answer Value) (t : LocatedTable) (n : ℕ) → andThen a (λ v q. given (item noName (v .letter) (v .payload) (v .beneath) none) q) ≡ given t n

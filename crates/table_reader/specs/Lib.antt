@@ -2,3 +2,4 @@
 pub mod Counting
 pub mod AnswerOf
 pub mod Filling
+pub mod Ending

@@ -5,7 +5,9 @@ ghost use Rattle.types.specs.Memory.{outcome};
 ghost use Rattle.tables.specs.Letters.{errata};
 ghost use Rattle.tables.specs.Reading.{tableAt, loneValueAt};
 ghost use Rattle.tables.specs.Tape.{roomOf, readTable, readLoneValue};
+ghost use Rattle.types.specs.Answer.{given};
 ghost use Rattle.table_reader.specs.Counting.{withCount, countRecords};
+ghost use Rattle.table_reader.specs.Ending.{readTableTo};
 ghost use Rattle.table_reader.specs.AnswerOf.{answerOfRecords, answerOfJudged};
 
 mod fill;
@@ -73,6 +75,16 @@ pub fn judge_field_value(s: &[u8], at: Cursor, room: usize) -> ReadRecords
     with_cursor(judge_entries(s, start, start + 1, LEVELS, room, false))
 }
 
+// Fills the records of a table that was judged. Without any nothing is filled, wherever the used records end.
+fn fill_counted(s: &[u8], start: usize, count: usize, next: usize, tape: &mut [u64], used: usize)
+    requires { ⌜ countRecords (tableAt errata (now s) start (roomOf used (now tape))) ≡ given (record { value = tt; count = count }) next ⌝ }
+    ensures { λ _. ⌜ outcome (given (record { value = tt; count = count }) next) (now (tape .exit)) ≡ readTable errata (now (s .entry)) start used (now (tape .entry)) ⌝ }
+{
+    if count != 0 {
+        fill_table(s, start, LEVELS, tape, used);
+    }
+}
+
 // Reads a table onto the records of the tape behind the used ones.
 pub fn read_field_table(s: &[u8], at: Cursor, tape: &mut [u64], used: usize) -> ReadRecords
     ensures { λ r. ⌜ outcome (answerOfRecords r) (now (tape .exit)) ≡ readTable errata (now (s .entry)) (at .at) used (now (tape .entry)) ⌝ }
@@ -81,11 +93,29 @@ pub fn read_field_table(s: &[u8], at: Cursor, tape: &mut [u64], used: usize) -> 
     match judge_field_table(s, Cursor { at: start }, room(tape, used)) {
         ReadRecords::Refused(e) => ReadRecords::Refused(e),
         ReadRecords::Value(count, next) => {
-            // Nothing is filled, wherever the used records end.
-            if count == 0 {
-                return ReadRecords::Value(count, next);
+            fill_counted(s, start, count, next.at, tape, used);
+            ReadRecords::Value(count, next)
+        }
+    }
+}
+
+// The same, but a table that ends elsewhere than at `end` is not filled.
+pub fn read_field_table_to(
+    s: &[u8],
+    at: Cursor,
+    end: usize,
+    tape: &mut [u64],
+    used: usize,
+) -> ReadRecords
+    ensures { λ r. ⌜ outcome (answerOfRecords r) (now (tape .exit)) ≡ readTableTo errata (now (s .entry)) (at .at) end used (now (tape .entry)) ⌝ }
+{
+    let start = at.at;
+    match judge_field_table(s, Cursor { at: start }, room(tape, used)) {
+        ReadRecords::Refused(e) => ReadRecords::Refused(e),
+        ReadRecords::Value(count, next) => {
+            if next.at == end {
+                fill_counted(s, start, count, next.at, tape, used);
             }
-            fill_table(s, start, LEVELS, tape, used);
             ReadRecords::Value(count, next)
         }
     }

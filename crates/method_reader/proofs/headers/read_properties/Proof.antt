@@ -1,81 +1,64 @@
-use mathlib.Core.Path.{ap}
-use native.Mathlib.Omega.{arith}
-use Rattle.tables.specs.Letters.{errata}
-use Rattle.method.proofs.LayoutLaws.{property-widths}
-use Rattle.method_words.specs.Words.{headerWords}
-use Rattle.method_words.specs.InWords.{inWords}
-use Rattle.method_reader.proofs.PropertyLaws.{properties-refused, properties-read}
+-- `method_reader::headers::read_properties` meets its contract: what is told in one pass, or, where that changed nothing, what two passes give.
+-- Assumes nothing.
+use mathlib.Core.Path.{_≡_, ap, _∙_}
+use lib.ListN.{length}
+use mathlib.Core.Logic.{⊎-elim}
+use Rattle.method_reader.proofs.OnePassLaws.{told-once, untold}
 use borrow.Author.Needs.{needs}
 use Rattle.method_reader.proofs.headers.read_properties.Statement.{statement}
 use Rattle.method_reader.proofs.headers.read_properties.Tie as tie
-use Rattle.method_reader.proofs.headers.read_properties.Reads as reads
-use Rattle.method_reader.proofs.headers.read_properties.Lts as lts
-use Rattle.method.proofs.layout.property_fields.Reads as property-fields-reads
-use Rattle.method_reader.proofs.fields.fill_table.Reads as fill-table-reads
-use Rattle.method_reader.proofs.fields.read_fields.Reads as read-fields-reads
-use Rattle.table_reader.proofs.room.Reads as room-reads
 
--- src/headers.rt:38:18
-property-fields-requires : tie.Need-property-fields-requires
-property-fields-requires c κs = search needs
+read-once-requires : tie.Need-read-once-requires
+read-once-requires c κs = search needs
 
--- src/headers.rt:40:23
-slice-aggregate-read-fields : tie.Need-slice-aggregate-read-fields
-slice-aggregate-read-fields c = search needs
+enum-known-once : tie.Need-enum-known-once
+enum-known-once c = search needs
 
--- src/headers.rt:40:48
-room-requires : tie.Need-room-requires
-room-requires c κs = search needs
-
--- src/headers.rt:40:66
-slice-aggregate-read-fields-2 : tie.Need-slice-aggregate-read-fields-2
-slice-aggregate-read-fields-2 c = search needs
-
--- src/headers.rt:40:11
-read-fields-requires : tie.Need-read-fields-requires
-read-fields-requires c κs = let p = c .before .before .before .before .before .before .before .pre in (p .1, omega (arith, c .before .before .before .before .property-fields .ok), p .0, rw (c .before .before .before .before .property-fields .ensures) (property-widths _))
-
--- src/headers.rt:41:29
-enum-known-e : tie.Need-enum-known-e
-enum-known-e c = search needs
-
--- src/headers.rt:42:27
-enum-known-table : tie.Need-enum-known-table
-enum-known-table c = search needs
-
--- src/headers.rt:44:13
-fill-table-requires : tie.Need-fill-table-requires
-fill-table-requires c κs = search needs
-
--- src/headers.rt:25:1
 same-length : tie.Need-same-length
 same-length c = search needs
 
--- src/headers.rt:25:1
 returns : tie.Need-returns
-returns c = let a = c .before .before .before .before .before .before .before .before .before .before .before .before .args in let r = c .before .before .before .before .read-fields in let l = c .before .before .before .before .before .before .before .before .before .property-fields in ap (inWords headerWords (λ x. x .words) (a .words .now)) (properties-refused errata (a .s .now) (a .used) (a .tape .now) (a .class) (a .body-size) (a .present) (a .at) _ (l .result) _ _ (r .result) _ (l .ensures) (c .before .before .before .before .before .before .room .ensures) (r .ensures) (c .before .e .given .1))
+returns c =
+    let a = c .before .before .before .before .before .before .before .before .before .before .before .args in
+    told-once (a .present) (a .s .now) (a .at) (a .used) (a .tape .now) (a .words .now) _ _ _ _ _ (c .before .before .before .before .before .read-once .ensures) (c .before .once .given .1) (a .class) (a .body-size)
 
--- src/headers.rt:25:1
+enum-told : tie.Need-enum-told
+enum-told c = search needs
+
+read-judged-requires : tie.Need-read-judged-requires
+read-judged-requires c κs = search needs
+
 same-length-2 : tie.Need-same-length-2
-same-length-2 c = search needs
+same-length-2 c =
+    let a = c .before .before .before .before .before .before .before .before .args in
+    let same : (c .before .before .before .before .before .if1 .tape ≡ a .tape .now) × (c .before .before .before .before .before .if1 .words ≡ a .words .now) =
+    ⊎-elim
+    (λ w.
+    let u = untold (a .present) (a .s .now) (a .at) (a .used) (a .tape .now) (a .words .now) _ _ _ (w .3 .ensures) (w .7 .given .1) in
+    (w .8 ∙ u .0, w .9 ∙ u .1))
+    (λ w. (w .1, w .2)) (c .before .before .before .before .before .if1 .came) in
+    c .before .before .read-judged .kept .1 .1 .1 .1 .1 .0 ∙ ap length (same .0)
 
--- src/headers.rt:25:1
 returns-2 : tie.Need-returns-2
-returns-2 c = let a = c .before .before .before .before .before .before .before .before .before .before .before .before .before .before .before .before .args in let r = c .before .before .before .before .before .before .before .before .read-fields in let l = c .before .before .before .before .before .before .before .before .before .before .before .before .before .property-fields in properties-read errata (a .s .now) (a .used) (a .tape .now) (a .class) (a .body-size) (a .present) (a .at) _ (l .result) _ (r .result) _ _ _ (a .words .now) (c .before .before .before .before .before .before .before .before .before .before .before .before .before .before .before .before .pre .1) (l .ensures) (c .before .before .before .before .before .before .before .before .before .before .room .ensures) (r .ensures) (c .before .before .before .before .before .table .given .1) (c .before .before .fill-table .ensures)
+returns-2 c =
+    let a = c .before .before .before .before .before .before .before .before .args in
+    let same : (c .before .before .before .before .before .if1 .tape ≡ a .tape .now) × (c .before .before .before .before .before .if1 .words ≡ a .words .now) =
+    ⊎-elim
+    (λ w.
+    let u = untold (a .present) (a .s .now) (a .at) (a .used) (a .tape .now) (a .words .now) _ _ _ (w .3 .ensures) (w .7 .given .1) in
+    (w .8 ∙ u .0, w .9 ∙ u .1))
+    (λ w. (w .1, w .2)) (c .before .before .before .before .before .if1 .came) in
+    rw (same .0, same .1) at (c .before .before .read-judged .ensures)
 
 pub read-properties-spec : {M : Type 1} → statement M
 read-properties-spec =
     tie.close
     (tie.spec
-    property-fields-requires
-    slice-aggregate-read-fields
-    room-requires
-    slice-aggregate-read-fields-2
-    read-fields-requires
-    enum-known-e
-    enum-known-table
-    fill-table-requires
+    read-once-requires
+    enum-known-once
     same-length
     returns
+    enum-told
+    read-judged-requires
     same-length-2
     returns-2)
