@@ -36,8 +36,9 @@ fn put_number(out: &mut [u8], at: usize, k: usize, n: u64)
     }
 }
 
-// The most octets that are moved at once.
-const PART: usize = 0x1_0000;
+// The most octets that are moved at once. For more than these a C library may copy by `rep movsb`, which on some processors takes
+// twenty times as long where the two places lie badly to each other.
+const PART: usize = 0x0800;
 
 // Octets one by one.
 fn put_each(out: &mut [u8], at: usize, s: &[u8])
@@ -54,7 +55,7 @@ fn put_each(out: &mut [u8], at: usize, s: &[u8])
 // Moves k octets by way of a part. It overlaps neither slice, so the compiler makes one move of the two loops, in registers or by
 // memmove, and the part goes; of a loop from slice to slice it makes no memmove, since the two might overlap.
 fn put_part(out: &mut [u8], to: usize, s: &[u8], from: usize, k: usize)
-    requires { ⌜ (k ≤ 65536) × (from + k ≤ length (now s)) × (to + k ≤ length (now out)) ⌝ }
+    requires { ⌜ (k ≤ 2048) × (from + k ≤ length (now s)) × (to + k ≤ length (now out)) ⌝ }
     ensures { λ r. ⌜ now (out .exit) ≡ splice to (take k (drop from (now (s .entry)))) (now (out .entry)) ⌝ }
 {
     let mut part = [0u8; PART];
@@ -72,7 +73,7 @@ fn put_part(out: &mut [u8], to: usize, s: &[u8], from: usize, k: usize)
 
 // The first k octets and the last k, which may overlap: two moves for every length from k to twice k.
 fn put_ends(out: &mut [u8], at: usize, s: &[u8], k: usize)
-    requires { ⌜ (k ≤ 65536) × (k ≤ length (now s)) × (length (now s) ≤ k + k) × (at + length (now s) ≤ length (now out)) ⌝ }
+    requires { ⌜ (k ≤ 2048) × (k ≤ length (now s)) × (length (now s) ≤ k + k) × (at + length (now s) ≤ length (now out)) ⌝ }
     ensures { λ r. ⌜ now (out .exit) ≡ splice at (now (s .entry)) (now (out .entry)) ⌝ }
 {
     let last = s.len() - k;

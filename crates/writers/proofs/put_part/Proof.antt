@@ -1,7 +1,7 @@
 -- `writers::put_part` meets its contract: the octets go into the part, and from it into the output. Assumes nothing.
 use mathlib.Core.Path.{_≡_, refl, sym, ap, _∙_}
 use mathlib.Core.List.{List}
-use Prim.Native.Nat.{ℕ, _≤_, _+_, _-_}
+use Prim.Native.Nat.{_≤_, _+_, _-_}
 use native.Mathlib.Numerals.{add-one}
 use native.Mathlib.Omega.{arith}
 use borrow.Author.Needs.{needs}
@@ -12,7 +12,7 @@ use Rattle.writers.proofs.put_part.Statement.{statement}
 use Rattle.writers.proofs.put_part.Tie as tie
 
 abbrev Inv-loop : tie.InvT-loop
-Inv-loop out to s from k part₀ i₀ part i = (i ≤ k) × (take i part ≡ take i (drop from s)) × (length part ≡ 65536)
+Inv-loop out to s from k part₀ i₀ part i = (i ≤ k) × (take i part ≡ take i (drop from s)) × (length part ≡ 2048)
 
 abbrev μ-loop : tie.MeasureT-loop
 μ-loop out to s from k part₀ i₀ part i = k - i

@@ -1,17 +1,13 @@
 -- `writers::put_parts` meets its contract. The invariant: the octets before i are put. Assumes nothing.
-use mathlib.Core.Path.{_≡_, refl, sym, ap, _∙_}
-use mathlib.Core.List.{List}
+use mathlib.Core.Path.{_≡_, refl}
 use Prim.Native.Nat.{_≤_, _+_, _-_}
 use native.Mathlib.Omega.{arith}
 use borrow.Author.Needs.{needs}
-use lib.ListN.{length, take, drop}
+use lib.ListN.{length, take}
 use Rattle.types.specs.Memory.{splice}
 use Rattle.writers.proofs.WriterLaws.{parts-none, parts-next, parts-all}
 use Rattle.writers.proofs.put_parts.Statement.{statement}
 use Rattle.writers.proofs.put_parts.Tie as tie
-use Rattle.writers.proofs.put_parts.Reads as reads
-use Rattle.writers.proofs.put_parts.Lts as lts
-use Rattle.writers.proofs.put_part.Reads as put-part-reads
 
 abbrev Inv-loop : tie.InvT-loop
 Inv-loop out₀ at s n i₀ out i = (i ≤ n) × (out ≡ splice at (take i s) out₀) × (length out ≡ length out₀)
@@ -42,7 +38,7 @@ loop-again c =
     let a = c .before .before .before .before .before .before .before .before .args in
     let l = c .before .before .before .before .before .loop in (
       omega (arith, c .before .before .before .before .loop-test .taken),
-      parts-next (a .out .now) (a .at) (a .s .now) (omega arith) (l .i) 65536 (omega (arith, c .before .before .before .before .loop-test .taken)) (l .inv .1) (c .before .before .put-part .ensures),
+      parts-next (a .out .now) (a .at) (a .s .now) (omega arith) (l .i) 2048 (omega (arith, c .before .before .before .before .loop-test .taken)) (l .inv .1) (c .before .before .put-part .ensures),
       omega (arith, c .before .before .put-part .kept .0),
     )
 
