@@ -1,7 +1,9 @@
 //! Frames: the kinds of cases made of them.
-use crate::Cases;
+use crate::comparison::Cases;
+use crate::frame::{FRAME_END, Frame, FrameType};
 use crate::inputs::{Rng, frame_fields};
-use amqp_rust::frame::{FRAME_END, Frame, FrameType};
+use crate::line::Arguments;
+use crate::operation::Operation::*;
 
 const TYPES: [FrameType; 4] =
     [FrameType::Method, FrameType::Header, FrameType::Body, FrameType::Heartbeat];
@@ -32,8 +34,8 @@ pub fn frames(cases: &mut Cases) {
 fn type_and_octets(cases: &mut Cases, octet: u8) {
     let empty = [head(octet, 0), vec![FRAME_END, 0xff]].concat();
     for length in 1..=empty.len() {
-        cases.case(0x06, &[&empty[..length]]);
-        cases.case(0x06, &[&vec![octet; length]]);
+        cases.case(Decode, &[&empty[..length]]);
+        cases.case(Decode, &[&vec![octet; length]]);
     }
 }
 
@@ -42,9 +44,9 @@ fn type_and_octets(cases: &mut Cases, octet: u8) {
 fn sizes_around(cases: &mut Cases, frame_type: FrameType, left: u8) {
     for size in 0..u32::from(left) + 3 {
         let octets: Vec<u8> = (0..left).map(|place| 0xc8 + place).collect();
-        cases.case(0x06, &[&[head(frame_type as u8, size), octets, vec![FRAME_END]].concat()]);
+        cases.case(Decode, &[&[head(frame_type as u8, size), octets, vec![FRAME_END]].concat()]);
         let ends = vec![FRAME_END; usize::from(left) + 1];
-        cases.case(0x06, &[&[head(frame_type as u8, size), ends].concat()]);
+        cases.case(Decode, &[&[head(frame_type as u8, size), ends].concat()]);
     }
 }
 
@@ -53,8 +55,8 @@ fn frame_ends(cases: &mut Cases, frame_type: FrameType, length: u32) {
     for end in 0..=255 {
         let payload = vec![0x61; length as usize];
         let octets = [head(frame_type as u8, length), payload, vec![end, FRAME_END]].concat();
-        cases.case(0x06, &[&octets]);
-        cases.case(0x06, &[&octets[..octets.len() - 1]]);
+        cases.case(Decode, &[&octets]);
+        cases.case(Decode, &[&octets[..octets.len() - 1]]);
     }
 }
 
@@ -63,7 +65,7 @@ fn large_sizes(cases: &mut Cases, frame_type: FrameType) {
     for size in [0x100, 0x1_0000, 0x7fff_ffff, 0x8000_0000, 0xffff_fff7, 0xffff_fff8, 0xffff_ffff] {
         for left in 0..=16 {
             let octets = vec![FRAME_END; left];
-            cases.case(0x06, &[&[head(frame_type as u8, size), octets].concat()]);
+            cases.case(Decode, &[&[head(frame_type as u8, size), octets].concat()]);
         }
     }
 }
@@ -71,10 +73,18 @@ fn large_sizes(cases: &mut Cases, frame_type: FrameType) {
 /// A frame written, and read: whole, cut by an octet, and with another frame after it.
 fn encoded(cases: &mut Cases, frame: Frame) {
     let whole = frame.encode();
-    cases.case_of(0x32, &frame_fields(&frame));
-    cases.case(0x06, &[&whole]);
-    cases.case(0x06, &[&whole[..whole.len() - 1]]);
-    cases.case(0x06, &[&[whole.as_slice(), &[8, 0, 0, 0, 0, 0, 0, FRAME_END]].concat()]);
+    written(cases, &frame);
+    cases.case(Decode, &[&whole]);
+    cases.case(Decode, &[&whole[..whole.len() - 1]]);
+    cases.case(Decode, &[&[whole.as_slice(), &[8, 0, 0, 0, 0, 0, 0, FRAME_END]].concat()]);
+}
+
+/// A frame by the encoder of any payload; and by the writer of frames, if it is a body.
+fn written(cases: &mut Cases, frame: &Frame) {
+    cases.case_of(Encode, &Arguments::of_fields(frame_fields(frame)));
+    if frame.frame_type == FrameType::Body {
+        cases.case(WriteFrame, &[&frame.channel.to_be_bytes(), &[3], &frame.payload]);
+    }
 }
 
 // Edges and long inputs.
@@ -82,8 +92,8 @@ fn encoded(cases: &mut Cases, frame: Frame) {
 /// Every frame type and every frame end, of an empty frame.
 pub fn edges(cases: &mut Cases) {
     for octet in 0..=255 {
-        cases.case(0x06, &[&[octet, 0, 1, 0, 0, 0, 0, FRAME_END]]);
-        cases.case(0x06, &[&[8, 0, 0, 0, 0, 0, 0, octet]]);
+        cases.case(Decode, &[&[octet, 0, 1, 0, 0, 0, 0, FRAME_END]]);
+        cases.case(Decode, &[&[8, 0, 0, 0, 0, 0, 0, octet]]);
     }
 }
 
@@ -91,9 +101,9 @@ pub fn edges(cases: &mut Cases) {
 pub fn long(cases: &mut Cases, octets: &[u8]) {
     let frame = Frame { frame_type: FrameType::Body, channel: 65_535, payload: octets.to_vec() };
     let whole = frame.encode();
-    cases.case(0x06, &[&whole]);
-    cases.case(0x06, &[&whole[..whole.len() - 1]]);
-    cases.case_of(0x32, &frame_fields(&frame));
+    cases.case(Decode, &[&whole]);
+    cases.case(Decode, &[&whole[..whole.len() - 1]]);
+    written(cases, &frame);
 }
 
 // Random octets.
@@ -116,6 +126,6 @@ pub fn likely(r: &mut Rng, octets: &mut [u8]) {
 pub fn recorded(cases: &mut Cases, octets: &[u8]) {
     let (frame, consumed) = Frame::decode(octets).expect("recorded.txt: a frame");
     assert_eq!(consumed, octets.len(), "recorded.txt: a frame with nothing after it");
-    (0..=octets.len()).for_each(|length| cases.case(0x06, &[&octets[..length]]));
-    cases.case_of(0x32, &frame_fields(&frame));
+    (0..=octets.len()).for_each(|length| cases.case(Decode, &[&octets[..length]]));
+    written(cases, &frame);
 }

@@ -1,9 +1,11 @@
 //! Well-formed inputs of readers and arguments of writers, drawn at random with a weight on the
-//! limits; and the pieces of which `cases` makes others.
+//! limits; and the pieces of which others are made.
+use crate::frame::{Frame, FrameType};
+use crate::line::Arguments;
 use crate::methods;
-use amqp_rust::frame::{Frame, FrameType};
-use amqp_rust::tape::{Table, store_table};
-use amqp_rust::types::{FieldValue, Writer};
+use crate::operation::Operation::{self, *};
+use crate::tape::{TOO_DEEP, Table};
+use crate::types::{FieldValue, Writer};
 
 /// A splitmix64 generator: the same numbers for the same seed on every machine.
 pub struct Rng(pub u64);
@@ -26,7 +28,12 @@ impl Rng {
     }
 
     pub fn octets(&mut self, length: usize) -> Vec<u8> {
-        (0..length).map(|_| self.octet()).collect()
+        let mut octets = Vec::with_capacity(length + 7);
+        while octets.len() < length {
+            octets.extend(self.next().to_le_bytes());
+        }
+        octets.truncate(length);
+        octets
     }
 
     pub fn one_in(&mut self, times: u64) -> bool {
@@ -44,21 +51,22 @@ impl Rng {
 }
 
 /// A well-formed input of a reader, with nothing after it.
-pub fn reader_input(r: &mut Rng, operation: u8) -> Vec<u8> {
-    if let Some(width) = number_width(operation) {
+pub fn reader_input(r: &mut Rng, operation: Operation) -> Vec<u8> {
+    if let Some(width) = operation.number_width() {
         return number(r, width);
     }
     match operation {
-        0x01 if r.one_in(4) => loose_table(r),
-        0x01 => table_octets(&table_to_read(r)),
-        0x02 if r.one_in(4) => loose_value(r),
-        0x02 => value_octets(&value_to_read(r)),
-        0x03 => short_string(text_up_to(r, 255).as_bytes()),
+        ReadFieldTable if r.one_in(4) => loose_table(r),
+        ReadFieldTable => table_octets(&table_to_read(r)),
+        ReadFieldValue if r.one_in(4) => loose_value(r),
+        ReadFieldValue => value_octets(&value_to_read(r)),
+        ShortStr => short_string(text_up_to(r, 255).as_bytes()),
         // What skip_field_table skips need not be a table.
-        0x05 if r.one_in(2) => table_octets(&table(r)),
-        0x04 | 0x05 => long_string(&long_content(r)),
-        0x06 => frame(r).encode(),
-        0x07 => {
+        SkipFieldTable if r.one_in(2) => table_octets(&table(r)),
+        LongStr | SkipFieldTable => long_string(&long_content(r)),
+        ScanUtf8 => long_content(r),
+        Decode => frame(r).encode(),
+        ReadContentHeader => {
             let flags = methods::flags(r);
             methods::header(r, flags)
         }
@@ -66,32 +74,29 @@ pub fn reader_input(r: &mut Rng, operation: u8) -> Vec<u8> {
     }
 }
 
-/// The fields of a case for a writer: arguments that the Rust can hold, so any refusal is 2.
-pub fn writer_arguments(r: &mut Rng, operation: u8) -> Vec<Vec<u8>> {
-    match operation {
-        0x30 => methods::command(r),
-        0x31 => {
+/// A writer's arguments: such as the Rust can hold, so any refusal is 2.
+pub fn writer_arguments(r: &mut Rng, operation: Operation) -> Arguments {
+    let fields = match operation {
+        WriteCommand => methods::command(r),
+        WriteContentHeader => {
             let flags = methods::flags(r);
-            methods::header_arguments(r, flags)
+            return methods::header_arguments(r, flags);
         }
-        0x32 => frame_fields(&frame(r)),
-        0x33 => table_fields(&table_to_write(r)),
-        0x34 => table_fields(&[(String::new(), lone_value(r))]),
-        0x35 => vec![(0..8).map(|_| r.below(2) as u8).collect()],
-        0x36 => vec![short_or_too_long(r)],
-        _ => vec![long_content(r)],
-    }
-}
-
-/// The octets that a reader of numbers reads; none for other readers.
-pub fn number_width(operation: u8) -> Option<usize> {
-    match operation {
-        0x08 | 0x0c => Some(1),
-        0x09 | 0x0d => Some(2),
-        0x0a | 0x0e | 0x10 => Some(4),
-        0x0b | 0x0f | 0x11 => Some(8),
-        _ => None,
-    }
+        WriteFrame => return methods::frame_arguments(r),
+        WriteFieldTable => return Arguments::of_table(table_to_write(r)),
+        WriteFieldValue => {
+            return Arguments::of_table(vec![(String::new(), lone_value(r))]);
+        }
+        Encode => frame_fields(&frame(r)),
+        PackBits => vec![(0..8).map(|_| r.below(2) as u8).collect()],
+        ProtocolHeader => Vec::new(),
+        WriteShortStr => vec![short_or_too_long(r)],
+        _ => match operation.number_width() {
+            Some(width) => vec![number(r, width)],
+            None => vec![long_content(r)],
+        },
+    };
+    Arguments::of_fields(fields)
 }
 
 /// Numbers of a width at which something changes, among them the odd floats by their bits.
@@ -204,13 +209,19 @@ pub const BOUNDARY_CHARACTERS: [char; 16] = [
     '\u{10000}', '\u{3ffff}', '\u{40000}', '\u{fffff}', '\u{100000}', '\u{10ffff}',
 ];
 
-/// A text of exactly `length` octets, mostly small letters.
+/// A text of exactly `length` octets, mostly small letters. Five characters come from one number.
 fn text(r: &mut Rng, length: usize) -> String {
     let mut text = String::with_capacity(length);
+    let (mut number, mut left) = (0, 0);
     while text.len() < length {
-        let character = match r.below(12) {
-            0 => r.pick(&BOUNDARY_CHARACTERS),
-            _ => char::from(b'a' + r.below(26) as u8),
+        if left == 0 {
+            (number, left) = (r.next(), 5);
+        }
+        let drawn = (number & 0xfff) as usize;
+        (number, left) = (number >> 12, left - 1);
+        let character = match drawn % 12 {
+            0 => BOUNDARY_CHARACTERS[drawn / 12 % BOUNDARY_CHARACTERS.len()],
+            _ => char::from(b'a' + (drawn / 12 % 26) as u8),
         };
         let fits = text.len() + character.len_utf8() <= length;
         text.push(if fits { character } else { 'z' });
@@ -262,7 +273,7 @@ pub fn long_string(octets: &[u8]) -> Vec<u8> {
 pub const LETTERS: &[u8] = b"tbBsuIilfdDSxTVFA";
 
 /// The greatest depth at which a table or an array may stand.
-const DEEPEST: u32 = 15;
+pub const DEEPEST: u32 = TOO_DEEP - 1;
 
 /// A value that stands at `depth`. `budget` bounds the tables and arrays in and beside it.
 fn value(r: &mut Rng, depth: u32, budget: &mut u32) -> FieldValue {
@@ -330,7 +341,7 @@ fn table(r: &mut Rng) -> Table {
 }
 
 /// Tables and arrays one in another, `depth` of them, now and then with a leaf beside one.
-fn chain(r: &mut Rng, depth: u64) -> Table {
+pub fn chain(r: &mut Rng, depth: u64) -> Table {
     let mut table = Table::new();
     for _ in 0..depth {
         if r.one_in(4) {
@@ -458,12 +469,6 @@ pub fn value_octets(value: &FieldValue) -> Vec<u8> {
     let mut w = Writer::new();
     w.field_value(value).expect("names of at most 255 octets");
     w.into_bytes()
-}
-
-/// Pool and tape.
-pub fn table_fields(table: &[(String, FieldValue)]) -> Vec<Vec<u8>> {
-    let (pool, tape) = store_table(table);
-    vec![pool, tape]
 }
 
 fn frame(r: &mut Rng) -> Frame {

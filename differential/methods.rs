@@ -1,38 +1,16 @@
 //! Commands, content headers and replies: random ones, and the kinds of cases made of them.
+use crate::comparison::Cases;
 use crate::inputs::{BOUNDARY_CHARACTERS, Rng, big_endian, edge_numbers, flat_table, likely_table};
 use crate::inputs::{number, reader_input, short_string, text_up_to};
-use crate::inputs::{table_fields, table_octets, table_to_write};
-use crate::{Cases, NOT_UTF8, TEXTS, damage, likely_octet, tables};
-use amqp_rust::types::{Reader, WireError};
-
-/// Class, method and arguments of each command: H, L, Q numbers of 2, 4 and 8 octets, s a short
-/// string, b a flag, p a text of any length (user and password).
-#[rustfmt::skip]
-const COMMANDS: [(u16, u16, &str); 25] = [
-    (10, 11, "pp"), (10, 31, "HLH"), (10, 40, "s"),
-    (20, 10, ""), (20, 20, "b"), (20, 21, "b"), (20, 40, "Hs"), (20, 41, ""),
-    (40, 10, "ssb"), (40, 20, "sb"),
-    (50, 10, "sb"), (50, 20, "sss"), (50, 30, "s"), (50, 40, "s"), (50, 50, "sss"),
-    (60, 10, "LHb"), (60, 20, "ssb"), (60, 30, "sb"), (60, 40, "ss"), (60, 70, "sb"),
-    (60, 80, "Qb"), (60, 90, "Qb"), (60, 120, "Qbb"),
-    (85, 10, "b"), (90, 10, ""),
-];
-
-/// The properties of a content header, flag 15 first: by the same letters, and o an octet, t a table.
-const PROPERTIES: &str = "sstoossssQsss";
-
-/// Class, method (class and weight of a content header) and what follows of the replies 20 to 28.
-const REPLIES: [(u8, &str); 9] = [
-    (0x20, ""),
-    (0x21, "HLH"),   // connection.tune
-    (0x22, "sLL"),   // queue.declare-ok
-    (0x23, "s"),     // basic.consume-ok
-    (0x24, "L"),     // queue.purge-ok, queue.delete-ok
-    (0x25, "QbssL"), // basic.get-ok
-    (0x26, "sQbss"), // basic.deliver
-    (0x27, "Qb"),    // basic.ack
-    (0x28, "QH"),    // a content header
-];
+use crate::inputs::{table_octets, table_to_write};
+use crate::layouts::{COMMANDS, REPLIES, present, properties};
+use crate::line::Arguments;
+use crate::operation::Operation::{self, *};
+use crate::random::{damage, likely_octet};
+use crate::strings::{NOT_UTF8, TEXTS};
+use crate::tables;
+use crate::tape::Table;
+use crate::types::{FieldValue, Reader, WireError};
 
 // Random inputs.
 
@@ -72,14 +50,15 @@ fn item(r: &mut Rng, letter: char) -> Vec<u8> {
             let most = r.pick(&[12, 12, 12, 12, 12, 12, 12, 255]);
             short_string(text_up_to(r, most).as_bytes())
         }
-        't' => reader_input(r, 0x01),
+        't' => reader_input(r, ReadFieldTable),
         _ => argument(r, letter),
     }
 }
 
 /// A payload of the kind that a reply reader reads.
-pub fn reply(r: &mut Rng, operation: u8) -> Vec<u8> {
-    let (_, letters) = REPLIES[usize::from(operation - 0x20)];
+pub fn reply(r: &mut Rng, operation: Operation) -> Vec<u8> {
+    let known = REPLIES.iter().find(|(of, _)| *of == operation);
+    let (_, letters) = known.expect("a reply reader");
     let mut octets = r.octets(4);
     letters.chars().for_each(|letter| octets.extend(item(r, letter)));
     octets
@@ -94,32 +73,46 @@ pub fn flags(r: &mut Rng) -> u16 {
     }
 }
 
-/// The letters of the properties that flags say are present.
-fn present(flags: u16) -> impl Iterator<Item = char> {
-    let set = move |place: &(usize, char)| flags >> (15 - place.0) & 1 == 1;
-    PROPERTIES.chars().enumerate().filter(set).map(|(_, letter)| letter)
-}
-
 /// A content header on the wire, of any class and weight; its table may run past its length or be
 /// too deep.
 pub fn header(r: &mut Rng, flags: u16) -> Vec<u8> {
     let weight = if r.one_in(2) { vec![0, 0] } else { number(r, 2) };
     let mut octets = [number(r, 2), weight, number(r, 8), flags.to_be_bytes().to_vec()].concat();
-    present(flags).for_each(|letter| octets.extend(item(r, letter)));
+    present(flags).for_each(|(_, letter)| octets.extend(item(r, letter)));
     octets
 }
 
-/// Class, body size, flags 15 to 3, then the present properties.
-pub fn header_arguments(r: &mut Rng, flags: u16) -> Vec<Vec<u8>> {
+/// Class, body size, flags 15 to 3, then the present properties; and the table, if it is among them.
+pub fn header_arguments(r: &mut Rng, flags: u16) -> Arguments {
     let flags = flags & !7;
     let mut fields = vec![number(r, 2), number(r, 8), flags.to_be_bytes().to_vec()];
-    for letter in present(flags) {
+    let mut table = Table::new();
+    for (_, letter) in present(flags) {
         match letter {
-            't' => fields.extend(table_fields(&table_to_write(r))),
+            't' => table = table_to_write(r),
             _ => fields.push(argument(r, letter)),
         }
     }
-    fields
+    Arguments { fields, table }
+}
+
+/// Channel, type, and the payload's arguments.
+pub fn frame_arguments(r: &mut Rng) -> Arguments {
+    let frame_type = r.pick(&[1, 2, 3, 8]);
+    let payload = match frame_type {
+        1 => Arguments::of_fields(command(r)),
+        2 => {
+            let flags = flags(r);
+            header_arguments(r, flags)
+        }
+        3 => {
+            let length = r.place(60);
+            Arguments::of_fields(vec![r.octets(length)])
+        }
+        _ => Arguments::default(),
+    };
+    let fields = [number(r, 2), vec![frame_type]].into_iter().chain(payload.fields).collect();
+    Arguments { fields, table: payload.table }
 }
 
 /// Puts what stands before the properties before most octets, with few flags.
@@ -200,25 +193,26 @@ fn command_case(
         _ => strings.next().expect("a string for each letter s and p").clone(),
     };
     let arguments = letters.chars().map(argument).collect();
-    cases.case_of(0x30, &command_fields(class, method, arguments));
+    let fields = command_fields(class, method, arguments);
+    cases.case_of(WriteCommand, &Arguments::of_fields(fields));
 }
 
 // The kind `headers`.
 
 pub fn headers(cases: &mut Cases) {
-    let mut r = Rng(0x07);
+    let mut r = Rng(7);
     for flags in 0..=0xffff {
         every_flags(cases, &mut r, flags);
     }
     for flags in (0..=0xffff).step_by(8) {
-        (0..4).for_each(|_| cases.case_of(0x31, &header_arguments(&mut r, flags)));
+        (0..4).for_each(|_| cases.case_of(WriteContentHeader, &header_arguments(&mut r, flags)));
     }
     for flags in [0, 7, 0x2000, 0xdff8, 0xfff8, 0xffff] {
         let octets = header(&mut r, flags);
-        (0..=octets.len()).for_each(|length| cases.case(0x07, &[&octets[..length]]));
+        (0..=octets.len()).for_each(|length| cases.case(ReadContentHeader, &[&octets[..length]]));
     }
-    for (place, letter) in PROPERTIES.chars().enumerate() {
-        lone_property(cases, 0x8000 >> place, letter);
+    for (flag, letter) in properties() {
+        lone_property(cases, 1 << flag, letter);
     }
 }
 
@@ -226,15 +220,15 @@ pub fn headers(cases: &mut Cases) {
 fn every_flags(cases: &mut Cases, r: &mut Rng, flags: u16) {
     let mut octets = header(r, flags);
     let cut = r.place(octets.len());
-    cases.case(0x07, &[&octets[..cut]]);
+    cases.case(ReadContentHeader, &[&octets[..cut]]);
     if r.one_in(3) {
         let after = r.place(5);
         octets.extend(r.octets(after));
     }
-    cases.case(0x07, &[&octets]);
-    cases.case(0x28, &[&octets]);
+    cases.case(ReadContentHeader, &[&octets]);
+    cases.case(ContentHeaderBodySize, &[&octets]);
     damage(r, &mut octets);
-    cases.case(0x07, &[&octets]);
+    cases.case(ReadContentHeader, &[&octets]);
 }
 
 /// The values of one property at which something changes, no other being present.
@@ -255,7 +249,7 @@ fn lone_property(cases: &mut Cases, flags: u16, letter: char) {
             for text in NOT_UTF8 {
                 property_read(cases, flags, &short_string(text));
             }
-            property_written(cases, flags, &[&[b'x'; 256]]);
+            property_written(cases, flags, &[&[b'x'; 256]], &[]);
         }
     }
 }
@@ -263,7 +257,7 @@ fn lone_property(cases: &mut Cases, flags: u16, letter: char) {
 /// A header with one property, by its octets and by the fields of a writer's case.
 fn property_case(cases: &mut Cases, flags: u16, octets: &[u8], fields: &[&[u8]]) {
     property_read(cases, flags, octets);
-    property_written(cases, flags, fields);
+    property_written(cases, flags, fields, &[]);
 }
 
 /// The header read whole, cut by an octet, and with an octet after it.
@@ -271,14 +265,19 @@ pub fn property_read(cases: &mut Cases, flags: u16, octets: &[u8]) {
     let fixed = [&[0, 60, 0, 0, 0, 0, 0, 0, 0, 0, 0, 9], flags.to_be_bytes().as_slice()].concat();
     let whole = [fixed.as_slice(), octets, &[0x80]].concat();
     for left in 0..=2 {
-        cases.case(0x07, &[&whole[..whole.len() - left]]);
+        cases.case(ReadContentHeader, &[&whole[..whole.len() - left]]);
     }
 }
 
-pub fn property_written(cases: &mut Cases, flags: u16, fields: &[&[u8]]) {
+pub fn property_written(
+    cases: &mut Cases,
+    flags: u16,
+    fields: &[&[u8]],
+    table: &[(String, FieldValue)],
+) {
     let (class, size, flags) = ([0, 60], [0, 0, 0, 0, 0, 0, 0, 9], flags.to_be_bytes());
     let fixed: [&[u8]; 3] = [&class, &size, &flags];
-    cases.case(0x31, &[&fixed, fields].concat());
+    cases.table_case(WriteContentHeader, &[&fixed, fields].concat(), table);
 }
 
 // The kind `replies`.
@@ -287,7 +286,7 @@ pub fn property_written(cases: &mut Cases, flags: u16, fields: &[&[u8]]) {
 const PAYLOADS: u32 = 4000;
 
 pub fn replies(cases: &mut Cases) {
-    let mut r = Rng(0x20);
+    let mut r = Rng(32);
     for (operation, letters) in REPLIES {
         (0..PAYLOADS).for_each(|_| reply_cases(cases, &mut r, operation));
         if letters.starts_with('s') {
@@ -297,7 +296,7 @@ pub fn replies(cases: &mut Cases) {
 }
 
 /// A payload whole, cut, with octets after it, and damaged; and random octets.
-fn reply_cases(cases: &mut Cases, r: &mut Rng, operation: u8) {
+fn reply_cases(cases: &mut Cases, r: &mut Rng, operation: Operation) {
     let mut octets = reply(r, operation);
     cases.case(operation, &[&octets]);
     let (cut, after) = (r.place(octets.len()), r.place(5));
@@ -312,7 +311,7 @@ fn reply_cases(cases: &mut Cases, r: &mut Rng, operation: u8) {
 }
 
 /// Texts behind the ids, and octets that are none: whole with what follows, and cut by an octet.
-fn reply_texts(cases: &mut Cases, operation: u8) {
+fn reply_texts(cases: &mut Cases, operation: Operation) {
     let long = [127, 128, 254, 255].map(|length| vec![b'x'; length]);
     let octets = NOT_UTF8.map(<[u8]>::to_vec);
     for text in edge_texts().into_iter().chain(long).chain(octets) {
@@ -328,16 +327,20 @@ fn reply_texts(cases: &mut Cases, operation: u8) {
 /// Logins with long texts; headers with a long table, alone and before a string.
 pub fn long(cases: &mut Cases, r: &mut Rng) {
     for length in [254, 255, 256, 257, 65_535, 65_536] {
-        let (long, short) = (vec![b'u'; length], b"p".to_vec());
-        cases.case_of(0x30, &command_fields(10, 11, vec![long.clone(), short.clone()]));
-        cases.case_of(0x30, &command_fields(10, 11, vec![short, long]));
+        let (long, short) = (vec![b'u'; length], vec![b'p']);
+        login(cases, &long, &short);
+        login(cases, &short, &long);
     }
     let table = flat_table(r, 1000);
-    let (octets, fields) = (table_octets(&table), table_fields(&table));
-    property_case(cases, 0x2000, &octets, &[&fields[0], &fields[1]]);
-    let text: &[u8] = &[b'x'; 255];
-    let octets = [octets, short_string(text)].concat();
-    property_case(cases, 0x2400, &octets, &[&fields[0], &fields[1], text]);
+    let (octets, text) = (table_octets(&table), [b'x'; 255]);
+    property_read(cases, 0x2000, &octets);
+    property_written(cases, 0x2000, &[], &table);
+    property_read(cases, 0x2400, &[octets, short_string(&text)].concat());
+    property_written(cases, 0x2400, &[&text], &table);
+}
+
+fn login(cases: &mut Cases, user: &[u8], password: &[u8]) {
+    cases.case(WriteCommand, &[&[0, 10], &[0, 11], user, password]);
 }
 
 // What was recorded.
@@ -345,33 +348,34 @@ pub fn long(cases: &mut Cases, r: &mut Rng) {
 /// A header read, whole and cut by an octet, and written.
 pub fn recorded_header(cases: &mut Cases, octets: &[u8]) {
     let fields = header_fields(octets).expect("recorded.txt: a content header");
-    cases.case(0x07, &[octets]);
-    cases.case(0x07, &[&octets[..octets.len() - 1]]);
-    cases.case(0x28, &[octets]);
-    cases.case_of(0x31, &fields);
+    cases.case(ReadContentHeader, &[octets]);
+    cases.case(ReadContentHeader, &[&octets[..octets.len() - 1]]);
+    cases.case(ContentHeaderBodySize, &[octets]);
+    cases.case_of(WriteContentHeader, &fields);
 }
 
-/// The fields of the case in which a writer gives these octets back.
-fn header_fields(octets: &[u8]) -> Result<Vec<Vec<u8>>, WireError> {
+/// The arguments with which a writer gives these octets back.
+fn header_fields(octets: &[u8]) -> Result<Arguments, WireError> {
     let mut r = Reader::new(octets);
     let (class, _weight, size, flags) = (r.u16()?, r.u16()?, r.u64()?, r.u16()?);
     let (class, size) = (class.to_be_bytes().to_vec(), size.to_be_bytes().to_vec());
     let mut fields = vec![class, size, flags.to_be_bytes().to_vec()];
-    for letter in present(flags) {
+    let mut table = Table::new();
+    for (_, letter) in present(flags) {
         match letter {
             's' => fields.push(r.short_str()?.into_bytes()),
-            't' => fields.extend(table_fields(&r.field_table()?)),
+            't' => table = r.field_table()?,
             'o' => fields.push(vec![r.u8()?]),
             _ => fields.push(big_endian(r.u64()?, 8)),
         }
     }
     assert_eq!(r.remaining(), 0, "recorded.txt: a content header with nothing after it");
-    Ok(fields)
+    Ok(Arguments { fields, table })
 }
 
 /// A reply by its reader, whole and cut by an octet, and by the reader of ids.
-pub fn recorded_reply(cases: &mut Cases, operation: u8, octets: &[u8]) {
+pub fn recorded_reply(cases: &mut Cases, operation: Operation, octets: &[u8]) {
     cases.case(operation, &[octets]);
     cases.case(operation, &[&octets[..octets.len() - 1]]);
-    cases.case(0x20, &[octets]);
+    cases.case(MethodId, &[octets]);
 }

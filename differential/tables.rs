@@ -1,16 +1,15 @@
 //! Cases of field tables and lone values: their edges, long ones, tables that were recorded.
-use crate::Cases;
-use crate::inputs::{LETTERS, edge_numbers, flat_table, long_string, short_string};
-use crate::inputs::{Rng, nested, table_fields, table_octets, value_octets};
+use crate::comparison::Cases;
+use crate::frame::{Frame, FrameType};
+use crate::inputs::{DEEPEST, LETTERS, edge_numbers, flat_table, long_string, short_string};
+use crate::inputs::{Rng, chain, nested, table_octets, value_octets};
 use crate::methods;
-use amqp_rust::tape::{Table, number};
-use amqp_rust::types::{FieldValue, Reader};
+use crate::operation::Operation::*;
+use crate::tape::{Table, number};
+use crate::types::{FieldValue, Reader};
 
 /// Seconds of 2026-11-16, its first and last, and of the days beside it.
 const DATES: [u64; 5] = [1_794_787_199, 1_794_787_200, 1_794_787_201, 1_794_873_599, 1_794_873_600];
-
-/// The greatest number of tables and arrays one in another that document 01 takes.
-const DEEPEST: u64 = 15;
 
 pub fn edges(cases: &mut Cases) {
     for letter in LETTERS {
@@ -84,44 +83,32 @@ fn tables() -> Vec<Table> {
 
 /// A table read and written.
 fn table_cases(cases: &mut Cases, table: &Table) {
-    cases.case(0x01, &[&table_octets(table)]);
-    cases.case_of(0x33, &table_fields(table));
+    cases.case(ReadFieldTable, &[&table_octets(table)]);
+    cases.table_case(WriteFieldTable, &[], table);
 }
 
 /// A value alone and as the entry of a table; read whole, read cut by an octet, and written.
 fn value_cases(cases: &mut Cases, value: &FieldValue) {
     let octets = value_octets(value);
-    cases.case(0x02, &[&octets]);
-    cases.case(0x02, &[&octets[..octets.len() - 1]]);
-    cases.case_of(0x34, &table_fields(&[(String::new(), value.clone())]));
+    cases.case(ReadFieldValue, &[&octets]);
+    cases.case(ReadFieldValue, &[&octets[..octets.len() - 1]]);
+    cases.table_case(WriteFieldValue, &[], &[(String::new(), value.clone())]);
     table_cases(cases, &vec![("n".into(), value.clone())]);
 }
 
-/// A table of one entry that may be too deep, and the entry's value alone. The Rust has no tape for
-/// what is too deep.
+/// A table of one entry that may be too deep, and the entry's value alone, read and written.
 fn deep_cases(cases: &mut Cases, table: &Table) {
     let [(_, value)] = table.as_slice() else { return };
-    cases.case(0x01, &[&table_octets(table)]);
-    cases.case(0x02, &[&value_octets(value)]);
-    if depth(value) <= DEEPEST {
-        table_cases(cases, table);
-        cases.case_of(0x34, &table_fields(&[(String::new(), value.clone())]));
-    }
-}
-
-/// How many tables and arrays stand one in another.
-fn depth(value: &FieldValue) -> u64 {
-    match value {
-        FieldValue::Table(entries) => 1 + entries.iter().map(|(_, v)| depth(v)).max().unwrap_or(0),
-        FieldValue::Array(items) => 1 + items.iter().map(depth).max().unwrap_or(0),
-        _ => 0,
-    }
+    cases.case(ReadFieldTable, &[&table_octets(table)]);
+    cases.case(ReadFieldValue, &[&value_octets(value)]);
+    cases.table_case(WriteFieldTable, &[], table);
+    cases.table_case(WriteFieldValue, &[], &[(String::new(), value.clone())]);
 }
 
 /// Every octet as a boolean.
 fn booleans(cases: &mut Cases) {
     for octet in 0..=255 {
-        cases.case(0x02, &[&[b't', octet]]);
+        cases.case(ReadFieldValue, &[&[b't', octet]]);
     }
 }
 
@@ -132,15 +119,21 @@ fn lengths(cases: &mut Cases) {
     let values = b"t\x01s\x01\x02S\x00\x00\x00\x02hiV";
     for length in 0..=entries.len() as u32 + 2 {
         let table = [&length.to_be_bytes(), entries.as_slice()].concat();
-        cases.case(0x01, &[&table]);
-        cases.case(0x01, &[&long_string(&[b"\x01tF", table.as_slice(), b"\x01zB\x07"].concat())]);
-        cases.case(0x02, &[&[b"F", table.as_slice()].concat()]);
+        cases.case(ReadFieldTable, &[&table]);
+        cases.case(
+            ReadFieldTable,
+            &[&long_string(&[b"\x01tF", table.as_slice(), b"\x01zB\x07"].concat())],
+        );
+        cases.case(ReadFieldValue, &[&[b"F", table.as_slice()].concat()]);
     }
     for length in 0..=values.len() as u32 + 2 {
         let array = [b"A", length.to_be_bytes().as_slice(), values].concat();
-        cases.case(0x02, &[&array]);
-        cases.case(0x01, &[&long_string(&[b"\x01a", array.as_slice(), b"\x01zB\x07"].concat())]);
-        cases.case(0x02, &[&array_octets(&[&array, b"B\x07".as_slice()].concat())]);
+        cases.case(ReadFieldValue, &[&array]);
+        cases.case(
+            ReadFieldTable,
+            &[&long_string(&[b"\x01a", array.as_slice(), b"\x01zB\x07"].concat())],
+        );
+        cases.case(ReadFieldValue, &[&array_octets(&[&array, b"B\x07".as_slice()].concat())]);
     }
 }
 
@@ -157,7 +150,7 @@ fn names(cases: &mut Cases) {
     let names = [short_string(b"\xff"), short_string(b"a\xc3"), short_string(b"a"), vec![2, b'a']];
     for name in names {
         for rest in BEHIND_NAMES {
-            cases.case(0x01, &[&long_string(&[name.as_slice(), rest].concat())]);
+            cases.case(ReadFieldTable, &[&long_string(&[name.as_slice(), rest].concat())]);
         }
     }
 }
@@ -174,8 +167,8 @@ pub fn long(cases: &mut Cases, r: &mut Rng) {
     value_cases(cases, &FieldValue::Array(many));
     // More values than a case for a writer has room for.
     let values = array_octets(&[b'V'; 60_000]);
-    cases.case(0x02, &[&values]);
-    cases.case(0x01, &[&long_string(&[b"\0", values.as_slice()].concat())]);
+    cases.case(ReadFieldValue, &[&values]);
+    cases.case(ReadFieldTable, &[&long_string(&[b"\0", values.as_slice()].concat())]);
 }
 
 /// A table that was recorded, as a table and as a value, read and written.
@@ -191,9 +184,36 @@ pub fn headers(cases: &mut Cases, flags: u16) {
     let deep = (13..=17).map(|depth| nested(depth, "FA", Table::new()));
     for table in tables().into_iter().chain(deep) {
         methods::property_read(cases, flags, &table_octets(&table));
-        if table.iter().all(|(_, value)| depth(value) <= DEEPEST) {
-            let fields = table_fields(&table);
-            methods::property_written(cases, flags, &[&fields[0], &fields[1]]);
-        }
+        methods::property_written(cases, flags, &[], &table);
     }
+}
+
+// The kind `deep`.
+
+/// `count` rounds of 13 to 17 tables and arrays one in another, other values beside them.
+pub fn deep(cases: &mut Cases, seed: u64, count: u64) {
+    let mut r = Rng(seed);
+    for _ in 0..count {
+        let depth = u64::from(DEEPEST) - 2 + r.below(5);
+        let table = chain(&mut r, depth);
+        deep_cases(cases, &table);
+        let flags = r.pick(&[0x2000, 0xe400, 0x2008]);
+        deep_header(cases, &mut r, flags, &table);
+    }
+}
+
+/// The same as the table of a content header, with short strings around it.
+fn deep_header(cases: &mut Cases, r: &mut Rng, flags: u16, table: &Table) {
+    let (class, size) = (r.octets(2), r.octets(8));
+    let before: &[&[u8]] = if flags >> 14 == 3 { &[b"a", b"bc"] } else { &[] };
+    let behind: &[&[u8]] = if flags & 0x1fff == 0 { &[] } else { &[b"yz"] };
+    let fixed: &[&[u8]] = &[&class, &size, &flags.to_be_bytes()];
+    cases.table_case(WriteContentHeader, &[fixed, before, behind].concat(), table);
+    let strings =
+        |texts: &[&[u8]]| texts.iter().map(|text| short_string(text)).collect::<Vec<_>>().concat();
+    let fixed = [class.as_slice(), &[0, 0], &size, &flags.to_be_bytes()].concat();
+    let payload = [fixed, strings(before), table_octets(table), strings(behind)].concat();
+    cases.case(ReadContentHeader, &[&payload]);
+    let frame = Frame { frame_type: FrameType::Header, channel: 1, payload };
+    cases.case(ReadFrame, &[&frame.encode()]);
 }

@@ -1,23 +1,196 @@
-//! Field tables: the Rust's nested vectors as answers print them, to and from document 01's tape
-//! (records of six 64-bit words over a pool of octets), and where document 01 refuses their depth.
-use crate::line::push_octets;
-use crate::types::{FieldValue, Reader, WireError};
+//! Field tables as records over a pool of octets, as the port's tape has them: to and from the Rust's
+//! nested values, to and from words, to and from text.
+use crate::line::{Word, push_octets};
+use crate::types::FieldValue;
 use std::fmt::Write;
 
 pub type Table = Vec<(String, FieldValue)>;
 
-/// Letter, name start, name length, first, second, number of records beneath.
-type Record = [u64; 6];
+/// The width of a record in 64-bit words: the only place here that says it.
+pub const RECORD_WORDS: usize = 6;
 
 /// The depth at which document 01 refuses a table or an array.
-const TOO_DEEP: u32 = 16;
+pub const TOO_DEEP: u32 = 16;
 
-/// The number of records of a value: its own and those beneath it.
-pub fn records(value: &FieldValue) -> usize {
-    match value {
-        FieldValue::Table(entries) => 1 + entries.iter().map(|(_, v)| records(v)).sum::<usize>(),
-        FieldValue::Array(items) => 1 + items.iter().map(records).sum::<usize>(),
-        _ => 1,
+#[derive(Clone, Copy, Debug, Default, PartialEq)]
+pub struct Span {
+    pub start: u64,
+    pub length: u64,
+}
+
+/// One value. `first` and `second` are its number; of S and x they are the start and length of octets.
+#[derive(Clone, Copy, Debug, PartialEq)]
+pub struct Record {
+    pub letter: u64,
+    pub name: Span,
+    pub first: u64,
+    pub second: u64,
+    pub beneath: u64,
+}
+
+impl Record {
+    fn words(&self) -> [u64; RECORD_WORDS] {
+        let Record { letter, name, first, second, beneath } = *self;
+        [letter, name.start, name.length, first, second, beneath]
+    }
+
+    fn of_words(words: [u64; RECORD_WORDS]) -> Record {
+        let [letter, start, length, first, second, beneath] = words;
+        Record { letter, name: Span { start, length }, first, second, beneath }
+    }
+
+    fn has_octets(&self) -> bool {
+        self.letter == u64::from(b'S') || self.letter == u64::from(b'x')
+    }
+
+    fn is_array(&self) -> bool {
+        self.letter == u64::from(b'A')
+    }
+
+    fn octets(&self) -> Span {
+        Span { start: self.first, length: self.second }
+    }
+}
+
+/// Records whose names and octets stand in the pool one behind another; of no octets start and length
+/// are 0. So two tapes of the same values are equal.
+#[derive(Clone, Debug, Default, PartialEq)]
+pub struct Tape {
+    pub pool: Vec<u8>,
+    pub records: Vec<Record>,
+}
+
+fn slice(pool: &[u8], span: Span) -> Option<&[u8]> {
+    let start = usize::try_from(span.start).ok()?;
+    pool.get(start..start.checked_add(usize::try_from(span.length).ok()?)?)
+}
+
+impl Tape {
+    pub fn of_table(table: &[(String, FieldValue)]) -> Tape {
+        let mut tape = Tape::default();
+        tape.push_table(table);
+        tape
+    }
+
+    pub fn push_table(&mut self, table: &[(String, FieldValue)]) {
+        table.iter().for_each(|(name, value)| self.push(name.as_bytes(), value));
+    }
+
+    pub fn of_value(value: &FieldValue) -> Tape {
+        let mut tape = Tape::default();
+        tape.push(b"", value);
+        tape
+    }
+
+    /// Appends the records of a value.
+    fn push(&mut self, name: &[u8], value: &FieldValue) {
+        let (letter, first, second) = words(value);
+        let own = self.records.len();
+        let name = self.span(name);
+        self.records.push(Record { letter: letter.into(), name, first, second, beneath: 0 });
+        match value {
+            FieldValue::LongStr(octets) | FieldValue::Bytes(octets) => {
+                let span = self.span(octets);
+                (self.records[own].first, self.records[own].second) = (span.start, span.length);
+            }
+            FieldValue::Table(entries) => {
+                entries.iter().for_each(|(name, value)| self.push(name.as_bytes(), value));
+            }
+            FieldValue::Array(items) => items.iter().for_each(|item| self.push(b"", item)),
+            _ => {}
+        }
+        self.records[own].beneath = (self.records.len() - own - 1) as u64;
+    }
+
+    fn span(&mut self, octets: &[u8]) -> Span {
+        let start = if octets.is_empty() { 0 } else { self.pool.len() as u64 };
+        self.pool.extend_from_slice(octets);
+        Span { start, length: octets.len() as u64 }
+    }
+
+    /// What the words of a tape over a pool say. None where a span leaves the pool, or where a value in
+    /// an array has a name: document 01 gives these the words 0 and 0.
+    pub fn of_words(pool: &[u8], words: &[u64]) -> Option<Tape> {
+        let mut tape = Tape::default();
+        let mut around: Vec<(usize, bool)> = Vec::new();
+        for (place, words) in words.chunks(RECORD_WORDS).enumerate() {
+            let mut record = Record::of_words(words.try_into().ok()?);
+            while around.last().is_some_and(|(end, _)| *end <= place) {
+                around.pop();
+            }
+            if around.last().is_some_and(|(_, is_array)| *is_array)
+                && record.name != Span::default()
+            {
+                return None;
+            }
+            let end = place.checked_add(1)?.checked_add(usize::try_from(record.beneath).ok()?)?;
+            around.push((end, record.is_array()));
+            record.name = tape.span(slice(pool, record.name)?);
+            if record.has_octets() {
+                let span = tape.span(slice(pool, record.octets())?);
+                (record.first, record.second) = (span.start, span.length);
+            }
+            tape.records.push(record);
+        }
+        Some(tape)
+    }
+
+    pub fn words(&self) -> Vec<u64> {
+        self.records.iter().flat_map(Record::words).collect()
+    }
+
+    /// Appends ` LETTER:NAME:VALUE:BENEATH` for each record.
+    pub fn push_text(&self, line: &mut String) {
+        let push = |line: &mut String, span| match slice(&self.pool, span) {
+            Some(octets) => push_octets(line, octets),
+            None => line.push('?'),
+        };
+        for record in &self.records {
+            write!(line, " {}:", record.letter as u8 as char).unwrap();
+            push(line, record.name);
+            line.push(':');
+            match record.letter as u8 {
+                b'S' | b'x' => push(line, record.octets()),
+                b'V' | b'F' | b'A' => line.push('-'),
+                b'D' => write!(line, "{:x},{:x}", record.first, record.second).unwrap(),
+                _ => write!(line, "{:x}", record.first).unwrap(),
+            }
+            write!(line, ":{:x}", record.beneath).unwrap();
+        }
+    }
+
+    /// Appends the record that a word of a line describes; none where it is none.
+    pub fn push_parsed(&mut self, word: &str) -> Option<()> {
+        let parts: Vec<&str> = word.split(':').collect();
+        let [letter, name, value, beneath] = parts.as_slice() else { return None };
+        let [letter] = letter.as_bytes() else { return None };
+        let name = self.span(&Word(name).octets()?);
+        let (first, second) = match letter {
+            b'S' | b'x' => {
+                let span = self.span(&Word(value).octets()?);
+                (span.start, span.length)
+            }
+            b'V' | b'F' | b'A' => (0, 0),
+            b'D' => {
+                let (scale, mantissa) = value.split_once(',')?;
+                (Word(scale).number()?, Word(mantissa).number()?)
+            }
+            _ => (Word(value).number()?, 0),
+        };
+        let beneath = Word(beneath).number()?;
+        self.records.push(Record { letter: u64::from(*letter), name, first, second, beneath });
+        Some(())
+    }
+
+    /// The table that the records describe. None where document 01 refuses the tape with 5 or 8, or a
+    /// name with 4: no Rust value stands for these.
+    pub fn table(&self) -> Option<Table> {
+        Loader { tape: self, at: 0 }.entries(self.records.len(), 1)
+    }
+
+    /// The same as values without names.
+    pub fn values(&self) -> Option<Vec<FieldValue>> {
+        Loader { tape: self, at: 0 }.items(self.records.len(), 1)
     }
 }
 
@@ -44,89 +217,9 @@ fn words(value: &FieldValue) -> (u8, u64, u64) {
     }
 }
 
-/// Appends ` LETTER:NAME:VALUE:BENEATH` for a value and each one beneath it, in reading order.
-pub fn print(line: &mut String, name: &[u8], value: &FieldValue) {
-    let (letter, first, second) = words(value);
-    write!(line, " {}:", letter as char).unwrap();
-    push_octets(line, name);
-    line.push(':');
-    match value {
-        FieldValue::LongStr(octets) | FieldValue::Bytes(octets) => push_octets(line, octets),
-        FieldValue::Void | FieldValue::Table(_) | FieldValue::Array(_) => line.push('-'),
-        FieldValue::Decimal { .. } => write!(line, "{first:x},{second:x}").unwrap(),
-        _ => write!(line, "{first:x}").unwrap(),
-    }
-    write!(line, ":{:x}", records(value) - 1).unwrap();
-    match value {
-        FieldValue::Table(entries) => {
-            entries.iter().for_each(|(n, v)| print(line, n.as_bytes(), v))
-        }
-        FieldValue::Array(items) => items.iter().for_each(|v| print(line, b"", v)),
-        _ => {}
-    }
-}
-
-/// A table as the two fields of a case: its pool and its tape.
-pub fn store_table(table: &[(String, FieldValue)]) -> (Vec<u8>, Vec<u8>) {
-    let (mut pool, mut tape) = (Vec::new(), Vec::new());
-    for (name, value) in table {
-        store(&mut pool, &mut tape, name.as_bytes(), value);
-    }
-    (pool, tape.as_flattened().iter().flat_map(|word| word.to_be_bytes()).collect())
-}
-
-/// Appends the records of a value to the tape, their names and octets to the pool.
-fn store(pool: &mut Vec<u8>, tape: &mut Vec<Record>, name: &[u8], value: &FieldValue) {
-    let (name_at, name_length) = span(pool, name);
-    let (letter, mut first, mut second) = words(value);
-    if let FieldValue::LongStr(octets) | FieldValue::Bytes(octets) = value {
-        (first, second) = span(pool, octets);
-    }
-    let beneath = records(value) as u64 - 1;
-    tape.push([u64::from(letter), name_at, name_length, first, second, beneath]);
-    match value {
-        FieldValue::Table(entries) => {
-            entries.iter().for_each(|(n, v)| store(pool, tape, n.as_bytes(), v));
-        }
-        FieldValue::Array(items) => items.iter().for_each(|v| store(pool, tape, b"", v)),
-        _ => {}
-    }
-}
-
-/// Appends octets to the pool; their start and length. Of no octets both are 0, as document 01 has
-/// it for names in arrays.
-fn span(pool: &mut Vec<u8>, octets: &[u8]) -> (u64, u64) {
-    let start = if octets.is_empty() { 0 } else { pool.len() };
-    pool.extend_from_slice(octets);
-    (start as u64, octets.len() as u64)
-}
-
-/// The table that a pool and a tape describe. None where document 01 refuses the tape with 5 or 8,
-/// or a name with 4: no Rust value stands for these.
-pub fn load_table(pool: &[u8], tape: &[u8]) -> Option<Table> {
-    let tape = records_of(tape)?;
-    Loader { pool, tape: &tape, at: 0 }.entries(tape.len(), 1)
-}
-
-/// The lone value that a pool and a tape describe, or none as for a table.
-pub fn load_value(pool: &[u8], tape: &[u8]) -> Option<FieldValue> {
-    let tape = records_of(tape)?;
-    let mut items = Loader { pool, tape: &tape, at: 0 }.items(tape.len(), 1)?;
-    if items.len() == 1 { items.pop() } else { None }
-}
-
-fn records_of(tape: &[u8]) -> Option<Vec<Record>> {
-    let words: Vec<u64> = tape
-        .chunks(8)
-        .map(|word| Some(u64::from_be_bytes(word.try_into().ok()?)))
-        .collect::<Option<_>>()?;
-    words.chunks(6).map(|record| record.try_into().ok()).collect()
-}
-
 /// Reads records in order; `at` is the next one.
 struct Loader<'a> {
-    pool: &'a [u8],
-    tape: &'a [Record],
+    tape: &'a Tape,
     at: usize,
 }
 
@@ -135,9 +228,8 @@ impl Loader<'_> {
     fn entries(&mut self, end: usize, depth: u32) -> Option<Table> {
         let mut entries = Vec::new();
         while self.at < end {
-            let [_, start, length, ..] = self.tape[self.at];
-            let name = String::from_utf8(self.span(start, length)?).ok()?;
-            entries.push((name, self.value(end, depth)?));
+            let name = self.octets(self.tape.records[self.at].name)?;
+            entries.push((String::from_utf8(name).ok()?, self.value(end, depth)?));
         }
         Some(entries)
     }
@@ -146,7 +238,9 @@ impl Loader<'_> {
     fn items(&mut self, end: usize, depth: u32) -> Option<Vec<FieldValue>> {
         let mut items = Vec::new();
         while self.at < end {
-            let [_, 0, 0, ..] = self.tape[self.at] else { return None };
+            if self.tape.records[self.at].name != Span::default() {
+                return None;
+            }
             items.push(self.value(end, depth)?);
         }
         Some(items)
@@ -154,29 +248,27 @@ impl Loader<'_> {
 
     /// The value of the next record, which with all beneath it must stand before `limit`.
     fn value(&mut self, limit: usize, depth: u32) -> Option<FieldValue> {
-        let [letter, _, _, first, second, beneath] = self.tape[self.at];
+        let record = self.tape.records[self.at];
         self.at += 1;
-        let end = self.at.checked_add(usize::try_from(beneath).ok()?)?;
+        let end = self.at.checked_add(usize::try_from(record.beneath).ok()?)?;
         if end > limit {
             return None;
         }
-        let letter = u8::try_from(letter).ok()?;
+        let letter = u8::try_from(record.letter).ok()?;
         let value = match letter {
-            b'S' => FieldValue::LongStr(self.span(first, second)?),
-            b'x' => FieldValue::Bytes(self.span(first, second)?),
+            b'S' => FieldValue::LongStr(self.octets(record.octets())?),
+            b'x' => FieldValue::Bytes(self.octets(record.octets())?),
             b'F' if depth < TOO_DEEP => FieldValue::Table(self.entries(end, depth + 1)?),
             b'A' if depth < TOO_DEEP => FieldValue::Array(self.items(end, depth + 1)?),
-            _ => number(letter, first, second)?,
+            _ => number(letter, record.first, record.second)?,
         };
         // A number too large for its letter and an unused word that is not 0 don't come back.
-        let kept = matches!(letter, b'S' | b'x') || words(&value) == (letter, first, second);
+        let kept = record.has_octets() || words(&value) == (letter, record.first, record.second);
         (kept && self.at == end).then_some(value)
     }
 
-    fn span(&self, start: u64, length: u64) -> Option<Vec<u8>> {
-        let start = usize::try_from(start).ok()?;
-        let end = start.checked_add(usize::try_from(length).ok()?)?;
-        Some(self.pool.get(start..end)?.to_vec())
+    fn octets(&self, span: Span) -> Option<Vec<u8>> {
+        slice(&self.tape.pool, span).map(<[u8]>::to_vec)
     }
 }
 
@@ -198,86 +290,4 @@ pub fn number(letter: u8, first: u64, second: u64) -> Option<FieldValue> {
         b'V' => FieldValue::Void,
         _ => return None,
     })
-}
-
-/// Whether document 01 refuses a table with 8, where the Rust reads on.
-pub fn table_too_deep(octets: &[u8]) -> bool {
-    scan_table(&mut Reader::new(octets), 1) == Err(Stop::TooDeep)
-}
-
-/// Whether document 01 refuses a lone value with 8.
-pub fn value_too_deep(octets: &[u8]) -> bool {
-    scan_value(&mut Reader::new(octets), 1) == Err(Stop::TooDeep)
-}
-
-/// Whether document 01 refuses the headers of a content header with 8.
-pub fn header_too_deep(octets: &[u8]) -> bool {
-    scan_header(&mut Reader::new(octets)) == Err(Stop::TooDeep)
-}
-
-/// Why a scan ended early: with 8, or with a refusal that the Rust gives itself.
-#[derive(PartialEq)]
-enum Stop {
-    TooDeep,
-    Refused,
-}
-
-impl From<WireError> for Stop {
-    fn from(_: WireError) -> Stop {
-        Stop::Refused
-    }
-}
-
-/// Reads past a content header up to its table, the only part that can be too deep.
-fn scan_header(r: &mut Reader) -> Result<(), Stop> {
-    let (_class, _weight, _size, flags) = (r.u16()?, r.u16()?, r.u64()?, r.u16()?);
-    for flag in [15, 14] {
-        if flags >> flag & 1 == 1 {
-            r.short_str()?;
-        }
-    }
-    if flags >> 13 & 1 == 1 { scan_table(r, 1) } else { Ok(()) }
-}
-
-/// Reads past a table whose values stand at `depth`.
-fn scan_table(r: &mut Reader, depth: u32) -> Result<(), Stop> {
-    let end = scan_length(r)?;
-    while r.position() < end {
-        r.short_str()?;
-        scan_value(r, depth)?;
-    }
-    Ok(())
-}
-
-/// Reads past an array whose values stand at `depth`.
-fn scan_array(r: &mut Reader, depth: u32) -> Result<(), Stop> {
-    let end = scan_length(r)?;
-    while r.position() < end {
-        scan_value(r, depth)?;
-    }
-    Ok(())
-}
-
-/// Reads past a value that stands at `depth`.
-fn scan_value(r: &mut Reader, depth: u32) -> Result<(), Stop> {
-    let leaf = match r.u8()? {
-        b't' | b'b' | b'B' => r.u8().map(drop),
-        b's' | b'u' => r.u16().map(drop),
-        b'I' | b'i' | b'f' => r.u32().map(drop),
-        b'l' | b'd' | b'T' => r.u64().map(drop),
-        b'D' => r.u8().and_then(|_scale| r.u32()).map(drop),
-        b'S' | b'x' => r.long_str().map(drop),
-        b'V' => Ok(()),
-        b'F' | b'A' if depth == TOO_DEEP => return Err(Stop::TooDeep),
-        b'F' => return scan_table(r, depth + 1),
-        b'A' => return scan_array(r, depth + 1),
-        _ => return Err(Stop::Refused),
-    };
-    Ok(leaf?)
-}
-
-/// The declared end of a table or an array.
-fn scan_length(r: &mut Reader) -> Result<usize, Stop> {
-    let length = r.u32()? as usize;
-    if length > r.remaining() { Err(Stop::Refused) } else { Ok(r.position() + length) }
 }

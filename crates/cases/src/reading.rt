@@ -1,190 +1,145 @@
-// The operations that read one field from its start: 03 short_str, 04 long_str, 05 skip_field_table, 08 to 0b u8 to u64,
-// 0c to 0f i8 to i64, 10 f32, 11 f64.
-ghost use Prim.Native.Nat.{_≤_};
-ghost use lib.ListN.{length};
-use bits::f32_bits;
-use bits::f64_bits;
-use bits::unsigned8;
-use bits::unsigned16;
-use bits::unsigned32;
-use bits::unsigned64;
-use lines::answer;
-use lines::line;
+// The readers of one field: numbers by their bits, a signed one in two's complement; strings; what is passed over; the UTF-8 check.
+use crate::answer;
+use crate::answer::Told;
 use types::Cursor;
-use types::ReadF32;
-use types::ReadF64;
-use types::ReadI8;
-use types::ReadI16;
-use types::ReadI32;
-use types::ReadI64;
-use types::ReadSpan;
-use types::ReadU8;
-use types::ReadU16;
-use types::ReadU32;
-use types::ReadU64;
-use types::Skipped;
-use types::Span;
-use types::WireError;
+use utf8::Scan;
 
-// What was read, and the position behind it.
-enum Reading {
-    Number(u64, Cursor),
-    Octets(Span, Cursor),
-    Nothing(Cursor),
-    Refused(WireError),
+fn number(n: u64, next: Cursor) -> Told {
+    answer::values(next.at, 1, n, 0, 0)
 }
 
-// Numbers are printed by their bits: a signed one in two's complement.
+// A signed number, in two's complement.
+fn integer(bits: u64, negative: bool, next: Cursor) -> Told {
+    answer::with_word(
+        number(bits, next),
+        if negative { answer::NEGATIVE } else { 0 },
+    )
+}
 
-fn of_u8(r: ReadU8) -> Reading {
+fn of_u8(r: types::ReadU8) -> Told {
     match r {
-        ReadU8::Value(n, next) => Reading::Number(n as u64, next),
-        ReadU8::Refused(e) => Reading::Refused(e),
+        types::ReadU8::Value(n, next) => number(n as u64, next),
+        types::ReadU8::Refused(e) => answer::refused(e),
     }
 }
 
-fn of_u16(r: ReadU16) -> Reading {
+fn of_u16(r: types::ReadU16) -> Told {
     match r {
-        ReadU16::Value(n, next) => Reading::Number(n as u64, next),
-        ReadU16::Refused(e) => Reading::Refused(e),
+        types::ReadU16::Value(n, next) => number(n as u64, next),
+        types::ReadU16::Refused(e) => answer::refused(e),
     }
 }
 
-fn of_u32(r: ReadU32) -> Reading {
+pub(crate) fn of_u32(r: types::ReadU32) -> Told {
     match r {
-        ReadU32::Value(n, next) => Reading::Number(n as u64, next),
-        ReadU32::Refused(e) => Reading::Refused(e),
+        types::ReadU32::Value(n, next) => number(n as u64, next),
+        types::ReadU32::Refused(e) => answer::refused(e),
     }
 }
 
-fn of_u64(r: ReadU64) -> Reading {
+pub(crate) fn of_u64(r: types::ReadU64) -> Told {
     match r {
-        ReadU64::Value(n, next) => Reading::Number(n, next),
-        ReadU64::Refused(e) => Reading::Refused(e),
+        types::ReadU64::Value(n, next) => number(n, next),
+        types::ReadU64::Refused(e) => answer::refused(e),
     }
 }
 
-fn of_i8(r: ReadI8) -> Reading {
+fn of_i8(r: types::ReadI8) -> Told {
     match r {
-        ReadI8::Value(z, next) => Reading::Number(unsigned8(z) as u64, next),
-        ReadI8::Refused(e) => Reading::Refused(e),
+        types::ReadI8::Value(z, next) => integer(bits::unsigned8(z) as u64, z < 0, next),
+        types::ReadI8::Refused(e) => answer::refused(e),
     }
 }
 
-fn of_i16(r: ReadI16) -> Reading {
+fn of_i16(r: types::ReadI16) -> Told {
     match r {
-        ReadI16::Value(z, next) => Reading::Number(unsigned16(z) as u64, next),
-        ReadI16::Refused(e) => Reading::Refused(e),
+        types::ReadI16::Value(z, next) => integer(bits::unsigned16(z) as u64, z < 0, next),
+        types::ReadI16::Refused(e) => answer::refused(e),
     }
 }
 
-fn of_i32(r: ReadI32) -> Reading {
+fn of_i32(r: types::ReadI32) -> Told {
     match r {
-        ReadI32::Value(z, next) => Reading::Number(unsigned32(z) as u64, next),
-        ReadI32::Refused(e) => Reading::Refused(e),
+        types::ReadI32::Value(z, next) => integer(bits::unsigned32(z) as u64, z < 0, next),
+        types::ReadI32::Refused(e) => answer::refused(e),
     }
 }
 
-fn of_i64(r: ReadI64) -> Reading {
+fn of_i64(r: types::ReadI64) -> Told {
     match r {
-        ReadI64::Value(z, next) => Reading::Number(unsigned64(z), next),
-        ReadI64::Refused(e) => Reading::Refused(e),
+        types::ReadI64::Value(z, next) => integer(bits::unsigned64(z), z < 0, next),
+        types::ReadI64::Refused(e) => answer::refused(e),
     }
 }
 
-fn of_f32(r: ReadF32) -> Reading {
+fn nan(bits: u64, next: Cursor) -> Told {
+    answer::with_word(number(bits, next), answer::NAN)
+}
+
+fn of_f32(r: types::ReadF32) -> Told {
     match r {
-        ReadF32::Value(x, next) => Reading::Number(f32_bits(x) as u64, next),
-        ReadF32::Nan(n, next) => Reading::Number(n as u64, next),
-        ReadF32::Refused(e) => Reading::Refused(e),
+        types::ReadF32::Value(x, next) => number(bits::f32_bits(x) as u64, next),
+        types::ReadF32::Nan(bits, next) => nan(bits as u64, next),
+        types::ReadF32::Refused(e) => answer::refused(e),
     }
 }
 
-fn of_f64(r: ReadF64) -> Reading {
+fn of_f64(r: types::ReadF64) -> Told {
     match r {
-        ReadF64::Value(x, next) => Reading::Number(f64_bits(x), next),
-        ReadF64::Nan(n, next) => Reading::Number(n, next),
-        ReadF64::Refused(e) => Reading::Refused(e),
+        types::ReadF64::Value(x, next) => number(bits::f64_bits(x), next),
+        types::ReadF64::Nan(bits, next) => nan(bits, next),
+        types::ReadF64::Refused(e) => answer::refused(e),
     }
 }
 
-fn of_span(r: ReadSpan) -> Reading {
+pub(crate) fn of_span(r: types::ReadSpan) -> Told {
     match r {
-        ReadSpan::Value(v, next) => Reading::Octets(v, next),
-        ReadSpan::Refused(e) => Reading::Refused(e),
+        types::ReadSpan::Value(v, next) => answer::octets_at(next.at, 0, 0, 0, v),
+        types::ReadSpan::Refused(e) => answer::refused(e),
     }
 }
 
-fn of_skipped(r: Skipped) -> Reading {
+fn of_skipped(r: types::Skipped) -> Told {
     match r {
-        Skipped::Next(next) => Reading::Nothing(next),
-        Skipped::Refused(e) => Reading::Refused(e),
+        types::Skipped::Next(next) => answer::values(next.at, 0, 0, 0, 0),
+        types::Skipped::Refused(e) => answer::refused(e),
     }
 }
 
-fn read_string(op: u8, s: &[u8]) -> Reading {
-    let start = Cursor { at: 0 };
+// The place of the first character that is ill-formed, or behind the last.
+fn of_scan(r: Scan, len: usize) -> Told {
+    match r {
+        Scan::WellFormed => answer::values(len, 0, 0, 0, 0),
+        Scan::IllFormed(place) => answer::with_word(
+            answer::values(place, 0, 0, 0, 0),
+            answer::ILL_FORMED,
+        ),
+    }
+}
+
+fn read_integer(op: u8, s: &[u8], start: Cursor) -> Told {
     match op {
-        0x03 => of_span(start.short_str(s)),
-        0x04 => of_span(start.long_str(s)),
-        _ => of_skipped(start.skip_field_table(s)),
-    }
-}
-
-fn read_unsigned(op: u8, s: &[u8]) -> Reading {
-    let start = Cursor { at: 0 };
-    match op {
-        0x08 => of_u8(start.u8(s)),
-        0x09 => of_u16(start.u16(s)),
-        0x0a => of_u32(start.u32(s)),
-        _ => of_u64(start.u64(s)),
-    }
-}
-
-fn read_signed(op: u8, s: &[u8]) -> Reading {
-    let start = Cursor { at: 0 };
-    match op {
-        0x0c => of_i8(start.i8(s)),
-        0x0d => of_i16(start.i16(s)),
-        0x0e => of_i32(start.i32(s)),
+        0x00 => of_u8(start.u8(s)),
+        0x01 => of_u16(start.u16(s)),
+        0x02 => of_u32(start.u32(s)),
+        0x03 => of_u64(start.u64(s)),
+        0x04 => of_i8(start.i8(s)),
+        0x05 => of_i16(start.i16(s)),
+        0x06 => of_i32(start.i32(s)),
         _ => of_i64(start.i64(s)),
     }
 }
 
-fn read_float(op: u8, s: &[u8]) -> Reading {
-    let start = Cursor { at: 0 };
+// 00 to 0d.
+pub fn read(op: u8, s: &[u8], at: usize) -> Told {
+    let start = Cursor { at };
     match op {
-        0x10 => of_f32(start.f32(s)),
-        _ => of_f64(start.f64(s)),
-    }
-}
-
-fn read(op: u8, s: &[u8]) -> Reading {
-    match op {
-        0x03..=0x05 => read_string(op, s),
-        0x08..=0x0b => read_unsigned(op, s),
-        0x0c..=0x0f => read_signed(op, s),
-        _ => read_float(op, s),
-    }
-}
-
-pub(crate) fn answer(op: u8, octets: &[u8], marks: &[usize], out: &mut [u8], at: usize) -> usize
-    ensures { λ r. ⌜ r ≤ length (now (out .entry)) ⌝ }
-{
-    if line::fields(marks) != 2 {
-        return print::put(out, at, b'?');
-    }
-    let s = line::field(octets, marks, 1);
-    match read(op, s) {
-        Reading::Number(n, next) => {
-            let end = answer::given(out, at, next.at);
-            answer::and_number(out, end, b' ', n)
-        }
-        Reading::Octets(v, next) => {
-            let end = answer::given(out, at, next.at);
-            answer::and_span(out, end, b' ', s, v)
-        }
-        Reading::Nothing(next) => answer::given(out, at, next.at),
-        Reading::Refused(e) => answer::refused(out, at, e),
+        0x08 => of_f32(start.f32(s)),
+        0x09 => of_f64(start.f64(s)),
+        0x0a => of_span(start.short_str(s)),
+        0x0b => of_span(start.long_str(s)),
+        0x0c => of_skipped(start.skip_field_table(s)),
+        0x0d => of_scan(utf8::scan_utf8(s), s.len()),
+        _ => read_integer(op, s, start),
     }
 }

@@ -1,53 +1,41 @@
-// The operations that write: 35 pack_bits, 36 write_short_str, 37 write_long_str.
-ghost use Prim.Native.Nat.{_≤_};
-ghost use lib.ListN.{length};
-use lines::answer;
-use lines::lent;
-use lines::line;
-use lines::written::Outcome;
+// The writers of one field: numbers, each given at its own width; eight flags in an octet; strings and octets.
+use crate::answer;
+use crate::answer::Told;
+use crate::line::big_endian;
 use writers::Written;
 
-fn write(op: u8, octets: &[u8], marks: &[usize], lent: &mut [u8]) -> Written {
-    let s = line::field(octets, marks, 1);
+// The octets of the number that an operation writes.
+fn width_of(op: u8) -> usize {
+    match op % 4 {
+        0 => 1,
+        1 => 2,
+        2 => 4,
+        _ => 8,
+    }
+}
+
+fn write_number(op: u8, n: u64, lent: &mut [u8], at: usize) -> Written {
     match op {
-        0x36 => writers::write_short_str(lent, 0, s),
-        _ => writers::write_long_str(lent, 0, s),
+        0x40 => writers::write_u8(lent, at, (n % 0x100) as u8),
+        0x41 => writers::write_u16(lent, at, (n % 0x1_0000) as u16),
+        0x42 => writers::write_u32(lent, at, (n % 0x1_0000_0000) as u32),
+        0x43 => writers::write_u64(lent, at, n),
+        0x44 => writers::write_i8(lent, at, bits::signed8((n % 0x100) as u8)),
+        0x45 => writers::write_i16(lent, at, bits::signed16((n % 0x1_0000) as u16)),
+        0x46 => writers::write_i32(lent, at, bits::signed32((n % 0x1_0000_0000) as u32)),
+        _ => writers::write_i64(lent, at, bits::signed64(n)),
     }
 }
 
-// 36 and 37, the writer being lent `space` octets.
-pub fn outcome_lent(
-    op: u8,
-    octets: &[u8],
-    marks: &[usize],
-    space: usize,
-    lent: &mut [u8],
-) -> Outcome {
-    if line::fields(marks) != 2 {
-        return Outcome::NoCase;
+fn number(op: u8, s: &[u8], lent: &mut [u8], at: usize) -> Told {
+    if s.len() != width_of(op) {
+        return answer::no_case();
     }
-    if lent.len() < space {
-        return Outcome::NoCase;
-    }
-    lent::fill(&mut lent[0..space]);
-    let w = write(op, octets, marks, &mut lent[0..space]);
-    Outcome::Answered(w, space)
+    answer::of_written(write_number(op, big_endian(s), lent, at))
 }
 
-// 36 and 37. A writer with octets to spare, 16 behind the longest length field, must not touch them.
-pub fn outcome(op: u8, octets: &[u8], marks: &[usize], lent: &mut [u8]) -> Outcome {
-    let len = line::field(octets, marks, 1).len();
-    if lent.len() < 20 {
-        return Outcome::NoCase;
-    }
-    if lent.len() - 20 < len {
-        return Outcome::NoCase;
-    }
-    outcome_lent(op, octets, marks, len + 20, lent)
-}
-
-// Every octet is 00 or 01.
-fn all_flags(s: &[u8]) -> bool {
+// Whether every octet is 00 or 01.
+fn are_flags(s: &[u8]) -> bool {
     let mut i = 0;
     while i < s.len() {
         if 1 < s[i] {
@@ -58,27 +46,33 @@ fn all_flags(s: &[u8]) -> bool {
     true
 }
 
-// 35: eight flags, an octet each.
-pub(crate) fn answer_bits(octets: &[u8], marks: &[usize], out: &mut [u8], at: usize) -> usize
-    ensures { λ r. ⌜ r ≤ length (now (out .entry)) ⌝ }
-{
-    let s = line::field(octets, marks, 1);
-    if line::fields(marks) != 2 || !all_flags(s) {
-        return print::put(out, at, b'?');
+// Eight flags, an octet each: written as one octet.
+fn packed(s: &[u8], lent: &mut [u8], at: usize) -> Told {
+    if s.len() != 8 || !are_flags(s) {
+        return answer::no_case();
     }
-    if s.len() != 8 {
-        return print::put(out, at, b'?');
-    }
+    let low = [s[0] == 1, s[1] == 1, s[2] == 1, s[3] == 1];
+    let high = [s[4] == 1, s[5] == 1, s[6] == 1, s[7] == 1];
     let flags = [
-        s[0] == 1,
-        s[1] == 1,
-        s[2] == 1,
-        s[3] == 1,
-        s[4] == 1,
-        s[5] == 1,
-        s[6] == 1,
-        s[7] == 1,
+        low[0],
+        low[1],
+        low[2],
+        low[3],
+        high[0],
+        high[1],
+        high[2],
+        high[3],
     ];
-    let packed = [bits::pack_bits(flags)];
-    answer::written(out, at, &packed)
+    answer::of_written(writers::write_u8(lent, at, bits::pack_bits(flags)))
+}
+
+// 40 to 4b.
+pub fn write(op: u8, s: &[u8], lent: &mut [u8], at: usize) -> Told {
+    match op {
+        0x48 => packed(s, lent, at),
+        0x49 => answer::of_written(writers::write_short_str(lent, at, s)),
+        0x4a => answer::of_written(writers::write_long_str(lent, at, s)),
+        0x4b => answer::of_written(writers::write_octets(lent, at, s)),
+        _ => number(op, s, lent, at),
+    }
 }

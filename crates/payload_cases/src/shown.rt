@@ -1,35 +1,36 @@
-// The words of a payload as text: a command's class, method and arguments; a content header's body size, then each present property
-// behind its flag; a body's start and length.
-ghost use mathlib.Core.Path.{_≡_};
+// The words of a payload as text: a command's class, method and arguments; a content header's class and body size, then each present
+// property behind its flag; a body's start and length.
 ghost use Prim.Native.Nat.{_≤_, _<_};
-ghost use lib.ListN.{length};
-use lines::answer;
+use crate::fields::Words;
+use cases::answer::and_number;
+use cases::answer::and_span;
 use method::layout::layout_of;
 use method::layout::property_fields;
 use method::layout::width_of;
 use std::num::wrapping_add_usize;
-use table_read_cases::records;
+use table_cases::record::records;
 use types::Span;
 
 const TWO_BITS: u8 = 0xB3;
 
 const LOGIN: u8 = 0xD0;
 
-const TABLE: u8 = 0xF0;
-
-// Two numbers of 16 bits: class and method. A number of 64: a body size. Two: start and length of a body.
+// Two numbers of 16 bits: class and method. One and one of 64: class and body size. Two of 64: start and length of a body.
 const OF_COMMAND: [u8; 2] = [2, 2];
 
-const OF_HEADER: [u8; 1] = [8];
+const OF_HEADER: [u8; 2] = [2, 8];
 
 const OF_BODY: [u8; 2] = [8, 8];
 
-fn word_at(words: &[u64; 26], j: usize) -> u64 {
+// The property that is a table.
+const HEADERS: usize = 2;
+
+fn word_at(words: &Words, j: usize) -> u64 {
     if j < 26 { words[j] } else { 0 }
 }
 
 // Two words: where a string starts and how long it is.
-fn pair_at(words: &[u64; 26], j: usize) -> Span {
+fn pair_at(words: &Words, j: usize) -> Span {
     Span {
         start: word_at(words, j) as usize,
         len: word_at(words, wrapping_add_usize(j, 1)) as usize,
@@ -37,7 +38,7 @@ fn pair_at(words: &[u64; 26], j: usize) -> Span {
 }
 
 // The second argument of a field: the next bit of an octet, or the string behind the first.
-fn second(words: &[u64; 26], j: usize, field: u8) -> Span {
+fn second(words: &Words, j: usize, field: u8) -> Span {
     if field == LOGIN {
         return pair_at(words, wrapping_add_usize(j, 2));
     }
@@ -48,29 +49,24 @@ fn second(words: &[u64; 26], j: usize, field: u8) -> Span {
 }
 
 // A number, a bit or a string, behind `separator`.
-fn and_value(field: u8, v: Span, s: &[u8], separator: u8, out: &mut [u8], at: usize) -> usize
-    ensures { λ r. ⌜ r ≤ length (now (out .entry)) ⌝ }
-{
+fn and_value(field: u8, v: Span, s: &[u8], separator: u8, out: &mut [u8], at: usize) -> usize {
     match field / 16 {
-        0x5 | 0xD => answer::and_span(out, at, separator, s, v),
-        0xB => answer::and_number(out, at, separator, v.start as u64 % 2),
-        _ => answer::and_number(out, at, separator, v.start as u64),
+        0x5 | 0xD => and_span(out, at, separator, s, v),
+        0xB => and_number(out, at, separator, v.start as u64 % 2),
+        _ => and_number(out, at, separator, v.start as u64),
     }
 }
 
 // The arguments of one field of a layout; 0 is none.
 fn and_field(
     field: u8,
-    words: &[u64; 26],
+    words: &Words,
     j: usize,
     s: &[u8],
     separator: u8,
     out: &mut [u8],
     at: usize,
-) -> usize
-    requires { ⌜ at ≤ length (now out) ⌝ }
-    ensures { λ r. ⌜ r ≤ length (now (out .entry)) ⌝ }
-{
+) -> usize {
     if field == 0 || width_of(field) == 0 {
         return at;
     }
@@ -84,15 +80,12 @@ fn and_field(
 // The arguments of a layout, from word `from` on.
 fn and_fields(
     layout: &[u8],
-    words: &[u64; 26],
+    words: &Words,
     from: usize,
     s: &[u8],
     out: &mut [u8],
     at: usize,
-) -> usize
-    requires { ⌜ at ≤ length (now out) ⌝ }
-    ensures { λ r. ⌜ r ≤ length (now (out .entry)) ⌝ }
-{
+) -> usize {
     let mut next = at;
     let mut j = from;
     let mut i = 0;
@@ -108,41 +101,40 @@ fn and_fields(
 fn and_property(
     i: usize,
     present: bool,
-    words: &[u64; 26],
+    words: &Words,
     j: usize,
     s: &[u8],
     tape: &[u64],
     by_words: bool,
     out: &mut [u8],
     at: usize,
-) -> usize
-    requires { ⌜ (i < 13) × (at ≤ length (now out)) ⌝ }
-    ensures { λ r. ⌜ r ≤ length (now (out .entry)) ⌝ }
-{
+) -> usize {
     if !present {
+        return at;
+    }
+    if 13 <= i {
         return at;
     }
     let layout = property_fields();
     let next = print::put(out, at, b' ');
     let end = print::decimal(out, next, (15 - i) as u64);
-    if i == 2 {
-        let value = print::put(out, end, b'=');
-        return records(s, tape, word_at(words, j) as usize, by_words, out, value);
+    if i != HEADERS {
+        return and_field(layout[i], words, j, s, b'=', out, end);
     }
-    and_field(layout[i], words, j, s, b'=', out, end)
+    let count = word_at(words, j);
+    let value = and_number(out, end, b'=', count);
+    records(s, tape, count as usize, by_words, out, value)
 }
 
+// Those that are present, the highest of thirteen bits being the first property's.
 fn and_properties(
-    words: &[u64; 26],
+    words: &Words,
     s: &[u8],
     tape: &[u64],
     by_words: bool,
     out: &mut [u8],
     at: usize,
-) -> usize
-    requires { ⌜ at ≤ length (now out) ⌝ }
-    ensures { λ r. ⌜ r ≤ length (now (out .entry)) ⌝ }
-{
+) -> usize {
     let layout = property_fields();
     let mut left = words[3] % 0x2000;
     let mut next = at;
@@ -158,10 +150,7 @@ fn and_properties(
     next
 }
 
-fn and_command(words: &[u64; 26], s: &[u8], out: &mut [u8], at: usize) -> usize
-    requires { ⌜ at ≤ length (now out) ⌝ }
-    ensures { λ r. ⌜ r ≤ length (now (out .entry)) ⌝ }
-{
+fn and_command(words: &Words, s: &[u8], out: &mut [u8], at: usize) -> usize {
     let class = (words[1] % 0x1_0000) as u16;
     let method = (words[2] % 0x1_0000) as u16;
     let layout = layout_of(class, method);
@@ -171,20 +160,17 @@ fn and_command(words: &[u64; 26], s: &[u8], out: &mut [u8], at: usize) -> usize
 }
 
 pub(crate) fn and_payload(
-    words: &[u64; 26],
+    words: &Words,
     s: &[u8],
     tape: &[u64],
     by_words: bool,
     out: &mut [u8],
     at: usize,
-) -> usize
-    requires { ⌜ at ≤ length (now out) ⌝ }
-    ensures { λ r. ⌜ r ≤ length (now (out .entry)) ⌝ }
-{
+) -> usize {
     match words[0] {
         1 => and_command(words, s, out, at),
         2 => {
-            let next = and_fields(&OF_HEADER, words, 2, s, out, at);
+            let next = and_fields(&OF_HEADER, words, 1, s, out, at);
             and_properties(words, s, tape, by_words, out, next)
         }
         3 => and_fields(&OF_BODY, words, 1, s, out, at),
@@ -193,21 +179,16 @@ pub(crate) fn and_payload(
 }
 
 // The word that a content header's table has: behind the strings that are present before it.
-pub(crate) fn table_word(words: &[u64; 26]) -> usize
+fn table_word(words: &Words) -> usize
     ensures { λ r. ⌜ r ≤ 8 ⌝ }
 {
     4 + (words[3] / 0x1000 % 2 * 2 + words[3] / 0x800 % 2 * 2) as usize
 }
 
-pub(crate) fn has_table(words: &[u64; 26]) -> bool {
-    words[0] == 2 && words[3] / 0x400 % 2 == 1
-}
-
 // How many records a payload has.
-pub(crate) fn records_of(words: &[u64; 26]) -> usize {
-    if has_table(words) {
-        word_at(words, table_word(words)) as usize
-    } else {
-        0
+pub(crate) fn records_of(words: &Words) -> usize {
+    if words[0] == 2 && words[3] / 0x400 % 2 == 1 {
+        return words[table_word(words)] as usize;
     }
+    0
 }

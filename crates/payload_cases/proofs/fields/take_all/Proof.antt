@@ -6,10 +6,10 @@ use Rattle.payload_cases.proofs.fields.take_all.Statement.{statement}
 use Rattle.payload_cases.proofs.fields.take_all.Tie as tie
 
 abbrev Inv-loop : tie.InvT-loop
-Inv-loop octets marks layout present words₀ at₀ left₀ i₀ words at left i = Unit {0}
+Inv-loop pool marks layout present records words₀ at₀ left₀ i₀ words at left i = Unit {0}
 
 abbrev μ-loop : tie.MeasureT-loop
-μ-loop octets marks layout present words₀ at₀ left₀ i₀ words at left i = length layout - i
+μ-loop pool marks layout present records words₀ at₀ left₀ i₀ words at left i = length layout - i
 
 pub take-all-spec : {M : Type 1} → statement M
 take-all-spec =
