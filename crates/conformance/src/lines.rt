@@ -51,8 +51,7 @@ pub(crate) fn try_line(
     out: &mut [u8],
 ) -> Count {
     let mut count = before;
-    let first = at(line, 0);
-    if first == 0 || first == b'#' {
+    if line.len() == 0 || at(line, 0) == b'#' {
         return count;
     }
     let tab = find(line, 0, b'\t');

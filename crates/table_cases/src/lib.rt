@@ -1,5 +1,5 @@
-// Cases of field tables and lone values: readers and writers, the tape that readers are lent; and what the records of a line need, the
-// taking apart of a whole case.
+// Cases of field tables and lone values: readers and writers, and the tape that readers are lent. A whole line is taken apart here, since
+// its records are those of a table.
 pub mod case;
 pub mod lending;
 pub mod record;
