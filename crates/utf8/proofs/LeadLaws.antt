@@ -2,12 +2,12 @@
 use mathlib.Core.Path.{◌≡◌, refl, subst}
 use mathlib.Core.Bool.{Bool, true, false, ◌&&◌}
 use mathlib.Core.List.{List, [], ◌∷◌}
-use Prim.Native.Nat.{ℕ, zero, suc, ◌+◌, ◌-◌, ◌≤◌, ◌<◌}
+use Prim.Native.Nat.{ℕ, zero, suc, ◌+◌, ◌≤◌, ◌<◌}
 use native.Mathlib.Omega.{arith}
 use native.Mathlib.Nat.{eq-or-lt_of_le}
 use mathlib.Core.Logic.{⊎_elim}
 use lib.Dec.{T, eqb, eqb→eq}
-use Rattle.utf8.specs.Utf8.{Range, to}
+use Rattle.utf8.specs.Utf8.{Range}
 use Rattle.utf8.specs.Utf8.{followers}
 
 and_l : (a b : Bool) → T (a && b) → T a
