@@ -1,0 +1,14 @@
+-- `replies::queue_op_ok_message_count` meets its contract. Assumes nothing.
+use Rattle.replies.specs.Replies.{after_ids}
+use borrow.Author.Rules.{rules}
+use Rattle.replies.proofs.queue_op_ok_message_count.Goals as goal
+
+pub returns-in-Next : goal.returns-in-Next
+unfolding after_ids
+returns-in-Next c =
+    rw (← c.after_ids.ensures, c.in-Next.is) c.u32.ensures
+
+pub returns-in-Refused : goal.returns-in-Refused
+unfolding after_ids
+returns-in-Refused c =
+    rw (← c.after_ids.ensures, c.in-Refused.is)

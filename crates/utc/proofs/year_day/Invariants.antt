@@ -1,0 +1,13 @@
+use mathlib.Core.Path.{◌≡◌, ap}
+use Prim.Native.Nat.{◌+◌, ◌-◌, ◌*◌, ◌/◌, ◌≤◌}
+use native.Mathlib.Omega.{arith}
+use borrow.Author.Rules.{rules}
+use Rattle.utc.specs.Calendar.{days_before_year}
+use Rattle.utc.proofs.YearLaws.{cycles, next-year, year-long, years-small}
+use Rattle.utc.proofs.year_day.Given as goal
+
+abbrev pub invariant-loop-left : goal.invariant-loop-left
+invariant-loop-left l = (1970 ≤ l.year) × (days_before_year (l.year - 1970) + l.left ≡ l.days)
+
+abbrev pub decreases-loop-left : goal.decreases-loop-left
+decreases-loop-left l = l.left
