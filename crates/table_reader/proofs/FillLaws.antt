@@ -30,8 +30,8 @@ use Rattle.tables.specs.AnswerOf.{answer_of_kind}
 use Rattle.tables.specs.declared.Kind as code
 use Rattle.tables.specs.declared.Kind.TheVariants as variant
 use Rattle.tables.specs.contracts.Kind.{enum}
-use Rattle.tables.proofs.ReadingLaws.{Moving, entries-fuel-move, entries-end, entries-step, container-move, below_at, below-is, value-is, value-move}
-use Rattle.tables.proofs.Room.{entries-fuel-room, container-room, value_room}
+use Rattle.tables.proofs.ReadingLaws.{Moving, entries-end, entries-step, container-move, below_at, below-is, value-is, value-move}
+use Rattle.tables.proofs.Room.{container-room, value_room}
 use Rattle.tables.proofs.TapeLaws.{length-flatten, length-concat_map, concat_map-append}
 use Rattle.table_reader.specs.Filling.{Given, Fits, Holds, Stored, records_of, leaf_of, payload_of}
 use Rattle.table_reader.specs.declared.fill.Filled.{Filled}

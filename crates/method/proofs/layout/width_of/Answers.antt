@@ -11,8 +11,7 @@ use Rattle.types.proofs.Arms.{arm, Rest, rest}
 use Rattle.method.specs.Fields.{fixed}
 use Rattle.method.specs.Words.{width}
 use Rattle.method.specs.Layout.{kinds, field_of}
-use Rattle.method.proofs.layout.width_of.Statement.{statement}
-use Rattle.method.proofs.layout.width_of.Tie as tie
+use Rattle.method.proofs.layout.width_of.Goals as goal
 
 -- the width of a kind, whatever the low digit
 abbrev width_in : ℕ → ℕ → ℕ
@@ -38,23 +37,26 @@ width-rest field r =
     other : Rest ((12 ∷ []) ∷ (10 ∷ []) ∷ arms) (field / 16) → 0 ≡ width (field_of field)
     other q = sym (ap width (rest (fixed []) ((12 ∷ []) ∷ (10 ∷ []) ∷ arms) (field / 16) (kinds (field % 16)) q tt))
 
-returns : tie.Need-returns
-returns c = width-arm _ 0 1 refl c.match.keys1
+pub returns-in-0 : goal.returns-in-0
+returns-in-0 c =
+    width-arm _ 0 1 refl c.in-0.is
 
-returns-2 : tie.Need-returns-2
-returns-2 c = width-arm _ 5 2 refl c.match.keys2
+pub returns-in-5 : goal.returns-in-5
+returns-in-5 c =
+    width-arm _ 5 2 refl c.in-5.is
 
-returns-3 : tie.Need-returns-3
-returns-3 c = width-arm _ 11 1 refl c.match.keys3
+pub returns-in-11 : goal.returns-in-11
+returns-in-11 c =
+    width-arm _ 11 1 refl c.in-11.is
 
-returns-4 : tie.Need-returns-4
-returns-4 c = width-arm _ 13 4 refl c.match.keys4
+pub returns-in-13 : goal.returns-in-13
+returns-in-13 c =
+    width-arm _ 13 4 refl c.in-13.is
 
-returns-5 : tie.Need-returns-5
-returns-5 c = width-arm _ 15 1 refl c.match.keys5
+pub returns-in-15 : goal.returns-in-15
+returns-in-15 c =
+    width-arm _ 15 1 refl c.in-15.is
 
-returns-6 : tie.Need-returns-6
-returns-6 c = width-rest _ c.match.rest
-
-pub width-of-spec : {M : Type 1} → statement M
-width-of-spec = tie.close (tie.spec returns returns-2 returns-3 returns-4 returns-5 returns-6)
+pub returns-in_default : goal.returns-in_default
+returns-in_default c =
+    width-rest _ c.in_default.in_default-own.rest

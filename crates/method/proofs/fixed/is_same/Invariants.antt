@@ -1,0 +1,14 @@
+use mathlib.Core.Path.{◌≡◌, refl}
+use Prim.Native.Nat.{◌-◌}
+use native.Mathlib.Omega.{arith}
+use borrow.Author.Rules.{rules}
+use lib.ListN.{length, drop}
+use Rattle.method.specs.Reading.{same}
+use Rattle.method.proofs.FixedLaws.{same-lengths, same-differ, same_turn, same_end}
+use Rattle.method.proofs.fixed.is_same.Given as goal
+
+abbrev pub invariant-loop-i : goal.invariant-loop-i
+invariant-loop-i l = same (drop l.i l.a) (drop l.i l.b) ≡ same l.a l.b
+
+abbrev pub decreases-loop-i : goal.decreases-loop-i
+decreases-loop-i l = length l.a - l.i
