@@ -61,7 +61,7 @@ pub struct Frame {
 
 // What a payload holds. The reading step returns it and the frame writer takes it: strings and bodies are spans of a lent pool,
 // which is the input when reading, and a table is records of a lent tape.
-#[derive(Drop)]
+#[derive(Clone, Copy)]
 pub enum Payload {
     Command(Command),
     Header(ContentHeader),

@@ -5,7 +5,7 @@ pub mod layout;
 
 use types::Span;
 
-#[derive(Drop)]
+#[derive(Clone, Copy)]
 pub enum Command {
     ConnectionStartOk {
         user: Span,
@@ -101,32 +101,32 @@ pub enum Command {
     TxSelect,
 }
 
-#[derive(Drop)]
+#[derive(Clone, Copy)]
 pub enum OptSpan {
     None,
     Some(Span),
 }
 
-#[derive(Drop)]
+#[derive(Clone, Copy)]
 pub enum OptU8 {
     None,
     Some(u8),
 }
 
-#[derive(Drop)]
+#[derive(Clone, Copy)]
 pub enum OptU64 {
     None,
     Some(u64),
 }
 
 // The headers' tape records, by their number.
-#[derive(Drop)]
+#[derive(Clone, Copy)]
 pub enum OptTable {
     None,
     Some(usize),
 }
 
-#[derive(Drop)]
+#[derive(Clone, Copy)]
 pub struct ContentProperties {
     pub content_type: OptSpan,
     pub content_encoding: OptSpan,
@@ -143,7 +143,7 @@ pub struct ContentProperties {
     pub app_id: OptSpan,
 }
 
-#[derive(Drop)]
+#[derive(Clone, Copy)]
 pub struct ContentHeader {
     pub class: u16,
     pub body_size: u64,

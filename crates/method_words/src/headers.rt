@@ -8,7 +8,7 @@ use method::{ContentHeader, ContentProperties, OptSpan, OptTable, OptU8, OptU64}
 use types::Span;
 
 // The flags of the properties that follow, and the first of their words.
-#[derive(Drop)]
+#[derive(Clone, Copy)]
 struct Rest {
     flags: u16,
     j: usize,

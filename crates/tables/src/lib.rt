@@ -6,7 +6,7 @@ use types::{Span, WireError};
 
 // What follows a letter: a number of so many bits; nothing; a truth value; a scale octet and a number of 32 bits; a long string;
 // the values of a table, which have names, or of an array.
-#[derive(Drop)]
+#[derive(Clone, Copy)]
 pub enum Kind {
     Number8,
     Number16,

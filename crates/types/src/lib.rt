@@ -36,7 +36,7 @@ pub struct Cursor {
 }
 
 // Where some octets stand.
-#[derive(Drop)]
+#[derive(Clone, Copy)]
 pub struct Span {
     pub start: usize,
     pub len: usize,
