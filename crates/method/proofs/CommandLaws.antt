@@ -42,7 +42,7 @@ module _ (letters : Letters) where
         a.same,
         same_refl xs,
       )
-      (fields-later gs hs vs room r f k (stands-right xs (field_octets letters gs vs) h) (rw l e))
+      (fields-later {p = p + length xs} gs hs vs room r f k (stands-right xs (field_octets letters gs vs) h) (rw l e))
   fields-later {s} {p} (arg k ∷ gs) hs vs room r f v h e =
       let c = arg_octets letters k vs.0 in
       let x = field_octets letters gs vs.1 in
@@ -51,7 +51,7 @@ module _ (letters : Letters) where
       let m : room - length (arg_tape k ((laws letters k).place p vs.0)) - values_in gs vs.1 ≡ room - (values k vs.0 + values_in gs vs.1) = omega (arith, n) in
       rw (
         (laws letters k).here vs.0 room f.0 (omega arith) (stands-left c x h),
-        fields-later gs hs vs.1 (room - length (arg_tape k ((laws letters k).place p vs.0))) r f.1 (omega (arith, n)) (stands-right c x h) (rw (l, m) e),
+        fields-later {p = p + length c} gs hs vs.1 (room - length (arg_tape k ((laws letters k).place p vs.0))) r f.1 (omega (arith, n)) (stands-right c x h) (rw (l, m) e),
       )
 
   -- Commands

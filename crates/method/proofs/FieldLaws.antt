@@ -46,7 +46,7 @@ module _ (letters : Letters) where
         span-here (length xs) s p a.fits,
         a.same,
         same_refl xs,
-        fields-here fs vs room f r (stands-right xs (field_octets letters fs vs) h),
+        fields-here {p = p + length xs} fs vs room f r (stands-right xs (field_octets letters fs vs) h),
         length-append xs (field_octets letters fs vs),
         ← (add_assoc p (length xs) (length (field_octets letters fs vs))),
       )
@@ -55,7 +55,7 @@ module _ (letters : Letters) where
       let x = field_octets letters fs vs.1 in
       rw (
         (laws letters k).here vs.0 room f.0 (omega arith) (stands-left c x h),
-        fields-here fs vs.1 (room - length (arg_tape k ((laws letters k).place p vs.0))) f.1 (omega (arith, (laws letters k).tape-size vs.0 p)) (stands-right c x h),
+        fields-here {p = p + length c} fs vs.1 (room - length (arg_tape k ((laws letters k).place p vs.0))) f.1 (omega (arith, (laws letters k).tape-size vs.0 p)) (stands-right c x h),
         length-append c x,
         ← (add_assoc p (length c) (length x)),
       )
@@ -67,14 +67,14 @@ module _ (letters : Letters) where
   fields-cut {s} {p} (fixed x ∷ fs) vs room f r c =
       cut-split x (field_octets letters fs vs) c
       (λ a. rw (span-past (length x) s p a.less))
-      (λ a b. rw (span-here (length x) s p a.fits, a.same, same_refl x, fields-cut fs vs room f r b))
+      (λ a b. rw (span-here (length x) s p a.fits, a.same, same_refl x, fields-cut {p = p + length x} fs vs room f r b))
   fields-cut {s} {p} (arg k ∷ fs) vs room f r c =
       cut-split (arg_octets letters k vs.0) (field_octets letters fs vs.1) c
       (λ a. rw ((laws letters k).cut vs.0 room f.0 a))
       (λ a b.
       rw (
         (laws letters k).here vs.0 room f.0 (omega arith) a,
-        fields-cut fs vs.1 (room - length (arg_tape k ((laws letters k).place p vs.0))) f.1 (omega (arith, (laws letters k).tape-size vs.0 p)) b,
+        fields-cut {p = p + length (arg_octets letters k vs.0)} fs vs.1 (room - length (arg_tape k ((laws letters k).place p vs.0))) f.1 (omega (arith, (laws letters k).tape-size vs.0 p)) b,
       ))
 
   pub tape-sizes : (fs : List Field) (vs : Args Meaning fs) (p : ℕ) → length (tape_of fs (place_all fs p vs)) ≡ values_in fs vs
@@ -89,7 +89,7 @@ module _ (letters : Letters) where
       → args_meaning letters fs s (pooled_args fs (place_all fs p vs)) (tape_of fs (place_all fs p vs)) ≡ vs
   unfolding args_meaning pooled_args tape_of field_octets place_all
   args-meaning [] vs f h = refl
-  args-meaning (fixed xs ∷ fs) vs f h = args-meaning fs vs f (stands-right xs (field_octets letters fs vs) h)
+  args-meaning {s} {p} (fixed xs ∷ fs) vs f h = args-meaning {p = p + length xs} fs vs f (stands-right xs (field_octets letters fs vs) h)
   args-meaning {s} {p} (arg k ∷ fs) vs f h =
       let c = arg_octets letters k vs.0 in
       let x = field_octets letters fs vs.1 in

@@ -3,7 +3,6 @@ use Rattle.std.specs.Prelude.{◌≡◌, true, List, [], ◌∷◌, ◌++◌, �
 use Rattle.std.proofs.Math.Option.{Option, none}
 use Rattle.types.specs.Answer.{Refusal}
 use Rattle.types.specs.Octets.{octets}
-use Rattle.types.specs.Strings.{judge_length}
 use Rattle.types.specs.Judgement.{or_else}
 use Rattle.tables.specs.Letters.{Letters}
 use Rattle.method.specs.Fields.{Kind, kind, Field, fixed, arg, Meaning, Pooled, Args, fold_args, AllArgs}

@@ -1,7 +1,6 @@
 -- `method::fixed::fixed_len` meets its contract. Assumes nothing.
 use mathlib.Core.Path.{ap, ◌∙◌}
 use native.Mathlib.Omega.{arith}
-use borrow.Author.Rules.{rules}
 use lib.ListN.{length}
 use Rattle.method.proofs.FixedLaws.{length-zeros, fixed-zeros, fixed-text, no_text, no-fixed}
 use Rattle.method.proofs.fixed.fixed_len.Goals as goal

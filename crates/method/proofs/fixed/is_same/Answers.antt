@@ -1,10 +1,4 @@
 -- `method::fixed::is_same` meets its contract. The invariant: what is left says whether all is the same. Assumes nothing.
-use mathlib.Core.Path.{◌≡◌, refl}
-use Prim.Native.Nat.{◌-◌}
-use native.Mathlib.Omega.{arith}
-use borrow.Author.Rules.{rules}
-use lib.ListN.{length, drop}
-use Rattle.method.specs.Reading.{same}
 use Rattle.method.proofs.FixedLaws.{same-lengths, same-differ, same_turn, same_end}
 use Rattle.method.proofs.fixed.is_same.Goals as goal
 

@@ -1,10 +1,7 @@
-use mathlib.Core.Path.{◌≡◌, refl}
+use mathlib.Core.Path.{◌≡◌}
 use Prim.Native.Nat.{◌-◌}
-use native.Mathlib.Omega.{arith}
-use borrow.Author.Rules.{rules}
 use lib.ListN.{length, drop}
 use Rattle.method.specs.Reading.{same}
-use Rattle.method.proofs.FixedLaws.{same-lengths, same-differ, same_turn, same_end}
 use Rattle.method.proofs.fixed.is_same.Given as goal
 
 abbrev pub invariant-loop-i : goal.invariant-loop-i

@@ -2,32 +2,30 @@
 use mathlib.Core.Path.{ap, ◌∙◌}
 use mathlib.Core.List.{List}
 use Prim.Native.Nat.{ℕ}
-use native.Mathlib.Omega.{arith}
-use borrow.Author.Rules.{rules}
 use Rattle.writers.specs.Writers.{write_octets}
-use Rattle.method.proofs.FixedLaws.{length-zeros, fixed-zeros, fixed-text, no_text, no-fixed}
+use Rattle.method.proofs.FixedLaws.{fixed-zeros, fixed-text, no_text, no-fixed}
 use Rattle.method.proofs.fixed.write_fixed.Goals as goal
 
 pub returns-in-10 : goal.returns-in-10
 returns-in-10 c =
-    let a = c.args in c.write_octets.ensures ∙ ap (λ (xs : List ℕ). write_octets xs a.at a.out.now) (fixed-zeros a.field c.write_octets-arg-1.keys1)
+    let a = c.args in c.write_octets.ensures ∙ ap (λ (xs : List ℕ). write_octets xs a.at a.out.now) (fixed-zeros a.field c.in-10.is)
 
 pub returns-in-1 : goal.returns-in-1
 returns-in-1 c =
-    let a = c.args in c.write_octets-in-1.ensures ∙ ap (λ (xs : List ℕ). write_octets xs a.at a.out.now) (fixed-text a.field 1 c.in-1.keys2 c.write_octets-arg-in-1-1.keys1)
+    let a = c.args in c.write_octets-in-1.ensures ∙ ap (λ (xs : List ℕ). write_octets xs a.at a.out.now) (fixed-text a.field 1 c.in-12.is c.in-1.is)
 
 pub returns-in-2 : goal.returns-in-2
 returns-in-2 c =
-    let a = c.args in c.write_octets-in-2.ensures ∙ ap (λ (xs : List ℕ). write_octets xs a.at a.out.now) (fixed-text a.field 2 c.in-2.keys2 c.write_octets-arg-in-2-1.keys2)
+    let a = c.args in c.write_octets-in-2.ensures ∙ ap (λ (xs : List ℕ). write_octets xs a.at a.out.now) (fixed-text a.field 2 c.in-12.is c.in-2.is)
 
 pub returns-in-3 : goal.returns-in-3
 returns-in-3 c =
-    let a = c.args in c.write_octets-in-3.ensures ∙ ap (λ (xs : List ℕ). write_octets xs a.at a.out.now) (fixed-text a.field 3 c.in-3.keys2 c.write_octets-arg-in-3-1.keys3)
+    let a = c.args in c.write_octets-in-3.ensures ∙ ap (λ (xs : List ℕ). write_octets xs a.at a.out.now) (fixed-text a.field 3 c.in-12.is c.in-3.is)
 
 pub returns-in_default-digit : goal.returns-in_default-digit
 returns-in_default-digit c =
-    let a = c.args in c.write_octets-in_default-digit.ensures ∙ ap (λ (xs : List ℕ). write_octets xs a.at a.out.now) (no_text a.field c.in_default-digit.keys2 c.write_octets-arg-in_default-digit-1.rest)
+    let a = c.args in c.write_octets-in_default-digit.ensures ∙ ap (λ (xs : List ℕ). write_octets xs a.at a.out.now) (no_text a.field c.in-12.is c.in_default-digit.in_default-digit-own.rest)
 
 pub returns-in_default : goal.returns-in_default
 returns-in_default c =
-    let a = c.args in c.write_octets-in_default.ensures ∙ ap (λ (xs : List ℕ). write_octets xs a.at a.out.now) (no-fixed a.field c.write_octets-arg-in_default-1.rest)
+    let a = c.args in c.write_octets-in_default.ensures ∙ ap (λ (xs : List ℕ). write_octets xs a.at a.out.now) (no-fixed a.field c.in_default.in_default-own.rest)

@@ -1,7 +1,6 @@
 -- `method::layout::layout_of` meets its contract: each arm is the row of its key. Assumes nothing.
 use mathlib.Core.Path.{refl, sym}
 use native.Mathlib.Omega.{arith}
-use borrow.Author.Rules.{rules}
 use Rattle.method.specs.Commands.{commands}
 use Rattle.method.specs.Layout.{field_of}
 use Rattle.method.proofs.LayoutLaws.{rest-commands, layout-arm}

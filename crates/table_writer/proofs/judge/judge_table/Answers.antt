@@ -1,0 +1,11 @@
+-- `table_writer::judge::judge_table` meets its contract. Assumes nothing.
+use mathlib.Core.Path.{◌∙◌}
+use Rattle.tables.specs.Letters.{errata}
+use Rattle.table_writer.proofs.WholeLaws.{table-tape}
+use borrow.Author.Rules.{rules}
+use Rattle.table_writer.proofs.judge.judge_table.Goals as goal
+
+pub returns : goal.returns
+returns c =
+    let a = c.args in
+    c.judge_tape.ensures ∙ table-tape errata a.pool.now a.tape.now
