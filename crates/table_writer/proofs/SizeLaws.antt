@@ -20,7 +20,7 @@ use Rattle.types.proofs.Chain.{test-none}
 use Rattle.types.proofs.NumberLaws.{length-octets}
 use Rattle.tables.specs.Letters as kind
 use Rattle.tables.specs.Letters.{Leaf, number, boolean, decimal, Kind, leaf, container, unknown, Letters, kind_of, is_table}
-use Rattle.tables.specs.Forest.{none, Words, leaf_meaning, payload_meaning, meaning_of}
+use Rattle.tables.specs.Forest.{Words, leaf_meaning, payload_meaning, meaning_of}
 use Rattle.tables.specs.Tape.{Record, unflatten, forest_of}
 use Rattle.tables.specs.Writing.{leaf_octets, payload_octets, name_octets, body, in_pool, judge_name, judge_leaf, judge_payload, count_ok, judge_record, judge_records}
 use Rattle.tables.proofs.TapeLaws.{forest_step}

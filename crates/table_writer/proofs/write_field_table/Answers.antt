@@ -5,7 +5,6 @@ use Rattle.tables.specs.Letters.{errata}
 use Rattle.table_writer.specs.AnswerOf.{answer_of_octets}
 use Rattle.table_writer.proofs.EmitLaws.{long-before}
 use Rattle.table_writer.proofs.WriteLaws.{table-refused, table-too-long, table-no-space, table-ready, table-length, table-space, table-emitted}
-use borrow.Author.Rules.{rules}
 use Rattle.table_writer.proofs.write_field_table.Goals as goal
 
 pub returns-then-n-gt-MAX_LENGTH : goal.returns-then-n-gt-MAX_LENGTH

@@ -4,7 +4,6 @@ use native.Mathlib.Omega.{arith}
 use Rattle.tables.specs.Letters.{errata}
 use Rattle.table_writer.specs.AnswerOf.{answer_of_octets}
 use Rattle.table_writer.proofs.WriteLaws.{value-refused, value-too-long, value-no-space, value-ready, value-emitted}
-use borrow.Author.Rules.{rules}
 use Rattle.table_writer.proofs.write_field_value.Goals as goal
 
 pub returns-then-n : goal.returns-then-n

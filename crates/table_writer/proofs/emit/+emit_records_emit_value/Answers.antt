@@ -1,9 +1,8 @@
 -- The proof of the cycle of calls {emit_records, emit_value}. The measure is twice the levels that are left, and one more for the records. The
 -- loop's invariant: what is left to write, written, writes the whole; its measure is the records that are left. Assumes nothing.
-use Prim.Native.Nat.{ℕ, ◌<◌, ◌+◌, ◌-◌}
-use mathlib.Core.Path.{refl, sym, ap, ◌∙◌}
+use mathlib.Core.Path.{sym, ap, ◌∙◌}
 use native.Mathlib.Omega.{arith}
-use borrow.Author.Rules.{rules}
+use borrow.Enum.Refused.{opened}
 use Rattle.tables.specs.Letters.{errata}
 use Rattle.tables.specs.AnswerOf.{answer_of_kind, record_of}
 use Rattle.tables.proofs.JudgeLaws.{Octets}
@@ -11,7 +10,7 @@ use Rattle.table_writer.specs.Sizes.{records_from, first_octets}
 use Rattle.table_writer.proofs.EmitLaws.{number-emitted}
 use Rattle.table_writer.proofs.EmitSteps.{was_read, not-refused, beneath_of, payload_of, Here, here, Left, left, letter-small, name-passes, name-space, letter-space}
 use Rattle.table_writer.proofs.EmitSteps.{Body, body_of, body-count, body-emitted, leaf-ready, leaf-emitted}
-use Rattle.table_writer.proofs.EmitSteps.{Going, at-end, turn-ready, turn_inside, turn-again}
+use Rattle.table_writer.proofs.EmitSteps.{at-end, turn-ready, turn_inside, turn-again}
 use Rattle.table_writer.proofs.emit.+emit_records_emit_value.Goals as goal
 
 errata-octets : Octets errata
@@ -119,7 +118,7 @@ emit_value-emit_leaf-requires t c =
     left x c.emit_name-here.ensures
     (number-emitted 1 c.in-Value.r.letter (letter-space x c.emit_name-here.ensures) c.write_u8.ensures c.next_of-payload.ensures) in
     let x = value-here in
-    leaf-ready x (value-left) c.kind_of-kind.result c.kind_of-kind.ensures c.in_default.in_default-own.keys2
+    leaf-ready x (value-left) c.kind_of-kind.result c.kind_of-kind.ensures (opened c.in_default.in_default-own.keys2)
 
 pub emit_value-returns-in-Refused : goal.emit_value-returns-in-Refused
 emit_value-returns-in-Refused t c =
@@ -148,4 +147,4 @@ emit_value-returns-in_default t c =
     left x c.emit_name-here.ensures
     (number-emitted 1 c.in-Value.r.letter (letter-space x c.emit_name-here.ensures) c.write_u8.ensures c.next_of-payload.ensures) in
     let x = value-here in
-    leaf-emitted x (value-left) c.kind_of-kind.result c.kind_of-kind.ensures c.in_default.in_default-own.keys2 c.emit_leaf.ensures
+    leaf-emitted x (value-left) c.kind_of-kind.result c.kind_of-kind.ensures (opened c.in_default.in_default-own.keys2) c.emit_leaf.ensures

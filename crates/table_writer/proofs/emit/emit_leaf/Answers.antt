@@ -2,11 +2,10 @@
 use Prim.Native.Nat.{◌+◌, ◌≤◌}
 use native.Mathlib.Omega.{arith}
 use lib.ListN.{length}
-use borrow.Author.Rules.{rules}
 use Rattle.types.specs.Octets.{octets}
 use Rattle.tables.specs.Forest.{words}
 use Rattle.table_writer.specs.Emitting.{Emitted}
-use Rattle.table_writer.proofs.EmitLaws.{none_emitted, number-emitted, emitted-length, emitted-after, first_below, both_below, LongFits, long-fits, long-emitted, no_payload}
+use Rattle.table_writer.proofs.EmitLaws.{none_emitted, number-emitted, emitted-length, emitted-after, LongFits, long-fits, long-emitted, no_payload}
 use Rattle.table_writer.proofs.emit.emit_leaf.Goals as goal
 
 pub emit_span-requires : goal.emit_span-requires

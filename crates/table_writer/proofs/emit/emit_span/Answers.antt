@@ -1,5 +1,4 @@
 -- `table_writer::emit::emit_span` meets its contract. Assumes nothing.
-use borrow.Author.Rules.{rules}
 use Rattle.table_writer.proofs.EmitLaws.{span-emitted}
 use Rattle.table_writer.proofs.emit.emit_span.Goals as goal
 

@@ -2,13 +2,12 @@
 -- the answer from its start on is the answer from here on, with the size so far. Assumes nothing.
 use mathlib.Core.Path.{◌≡◌, sym, ap, ◌∙◌}
 use mathlib.Core.Logic.{inl}
-use Prim.Native.Nat.{ℕ, ◌+◌, ◌-◌, ◌*◌, ◌<◌}
+use Prim.Native.Nat.{◌+◌, ◌-◌}
 use native.Mathlib.Omega.{arith}
-use borrow.Author.Rules.{rules}
 use Rattle.tables.specs.Letters.{errata, kind_of, is_table}
 use Rattle.tables.specs.AnswerOf.{record_of, answer_of_record}
 use Rattle.table_writer.specs.AnswerOf.{answer_of_octets}
-use Rattle.table_writer.proofs.PassLaws.{record-le, value_from, all_from, value-le, all-le, value-missing, value-refused, Judged, beneath-inside, beneath-level, beneath-refused, beneath-given, nothing-beneath, Kept, kept-start, kept-end, kept-refused, turn_inside, kept-turn}
+use Rattle.table_writer.proofs.PassLaws.{record-le, value_from, all_from, value-le, all-le, value-missing, value-refused, Judged, beneath-inside, beneath-level, beneath-refused, beneath-given, nothing-beneath, kept-start, kept-end, kept-refused, turn_inside, kept-turn}
 use Rattle.table_writer.proofs.judge.+judge_records_judge_value.Goals as goal
 
 pub judge_records-loop-i-init : goal.judge_records-loop-i-init

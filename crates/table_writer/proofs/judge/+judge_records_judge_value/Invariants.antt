@@ -1,12 +1,6 @@
-use mathlib.Core.Path.{◌≡◌, sym, ap, ◌∙◌}
-use mathlib.Core.Logic.{inl}
-use Prim.Native.Nat.{ℕ, ◌+◌, ◌-◌, ◌*◌, ◌<◌}
-use native.Mathlib.Omega.{arith}
-use borrow.Author.Rules.{rules}
-use Rattle.tables.specs.Letters.{errata, kind_of, is_table}
-use Rattle.tables.specs.AnswerOf.{record_of, answer_of_record}
-use Rattle.table_writer.specs.AnswerOf.{answer_of_octets}
-use Rattle.table_writer.proofs.PassLaws.{record-le, value_from, all_from, value-le, all-le, value-missing, value-refused, Judged, beneath-inside, beneath-level, beneath-refused, beneath-given, nothing-beneath, Kept, kept-start, kept-end, kept-refused, turn_inside, kept-turn}
+use Prim.Native.Nat.{◌+◌, ◌-◌, ◌*◌}
+use Rattle.tables.specs.Letters.{errata}
+use Rattle.table_writer.proofs.PassLaws.{Kept}
 use Rattle.table_writer.proofs.judge.+judge_records_judge_value.Given as goal
 
 abbrev pub decreases-judge_records : goal.decreases-judge_records

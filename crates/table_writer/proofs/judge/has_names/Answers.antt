@@ -1,10 +1,7 @@
 -- `table_writer::judge::has_names` meets its contract. Assumes nothing.
-use mathlib.Core.Path.{refl, sym, ap, ◌∙◌}
+use mathlib.Core.Path.{refl, sym, ap}
 use Rattle.tables.specs.Letters.{unknown, errata, kind_of, is_table}
-use Rattle.tables.specs.AnswerOf.{answer_of_kind}
 use Rattle.tables.proofs.LetterLaws.{lookup-past}
-use Rattle.table_writer.proofs.KindLaws.{no_names}
-use borrow.Author.Rules.{rules}
 use Rattle.table_writer.proofs.judge.has_names.Goals as goal
 
 pub returns-then-letter-gt255 : goal.returns-then-letter-gt255

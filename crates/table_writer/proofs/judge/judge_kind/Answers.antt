@@ -1,11 +1,8 @@
 -- `table_writer::judge::judge_kind` meets its contract. Assumes nothing.
-use mathlib.Core.Path.{refl, ap, ◌∙◌}
-use Rattle.tables.specs.Letters.{Kind, unknown, errata, kind_of}
-use Rattle.tables.specs.AnswerOf.{answer_of_kind}
+use mathlib.Core.Path.{refl}
+use Rattle.tables.specs.Letters.{unknown, errata, kind_of}
 use Rattle.tables.proofs.LetterLaws.{lookup-past}
-use Rattle.table_writer.specs.Sizes.{kind_or_refusal}
-use Rattle.table_writer.proofs.KindLaws.{leaf-kind, kind-unknown, kind-leaf, kind-deep, kind-container}
-use borrow.Author.Rules.{rules}
+use Rattle.table_writer.proofs.KindLaws.{kind-unknown}
 use Rattle.table_writer.proofs.judge.judge_kind.Goals as goal
 
 pub returns-then-letter-gt255 : goal.returns-then-letter-gt255

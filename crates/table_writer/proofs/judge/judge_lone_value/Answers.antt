@@ -7,7 +7,6 @@ use Rattle.tables.specs.Tape.{record_at}
 use Rattle.tables.specs.AnswerOf.{record_of, answer_of_record}
 use Rattle.table_writer.specs.AnswerOf.{answer_of_octets}
 use Rattle.table_writer.proofs.WholeLaws.{lone-missing, lone-there, lone-tape, lone-refused, lone-miscounts}
-use borrow.Author.Rules.{rules}
 use Rattle.table_writer.proofs.judge.judge_lone_value.Goals as goal
 use Rattle.table_writer.proofs.judge.judge_lone_value.Goals.{In-Value}
 

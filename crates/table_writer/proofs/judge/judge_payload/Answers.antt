@@ -7,7 +7,7 @@ use mathlib.Core.Option.{none}
 use Prim.Native.Nat.{ℕ, ◌+◌, ◌^◌}
 use native.Mathlib.Omega.{arith}
 use lib.Dec.{ltb, eqb}
-use borrow.Author.Tests.{lt-ltb, le-ltb, eq-eqb, ne_eqb}
+use borrow.Author.Tests.{lt-ltb, eq-eqb}
 use Rattle.types.specs.Answer.{Refusal, bad_tape}
 use Rattle.types.specs.Judgement.{test}
 use Rattle.tables.specs.Forest.{words}
@@ -15,9 +15,8 @@ use Rattle.tables.specs.Writing.{judge_payload}
 use Rattle.tables.specs.AnswerOf.{answer_of_kind}
 use Rattle.tables.specs.declared.Kind.{Kind}
 use Rattle.table_writer.specs.Sizes.{capped, sized, own_payload}
-use Rattle.table_writer.proofs.KindLaws.{below_one, both-pass, first-fails, second-fails}
+use Rattle.table_writer.proofs.KindLaws.{below_one, both-pass}
 use Rattle.table_writer.proofs.SizeLaws.{capped-right, capped_le}
-use borrow.Author.Rules.{rules}
 use Rattle.table_writer.proofs.judge.judge_payload.Goals as goal
 
 -- the answer for a kind

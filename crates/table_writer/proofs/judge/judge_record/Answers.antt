@@ -6,7 +6,6 @@ use Rattle.tables.specs.Letters.{errata}
 use Rattle.tables.specs.AnswerOf.{answer_of_kind, record_of}
 use Rattle.table_writer.specs.AnswerOf.{answer_of_octets, answer_of_judged_kind}
 use Rattle.table_writer.proofs.PassLaws.{record-letter, record-name, record-payload, Parts, parts-le, record-count, record-given}
-use borrow.Author.Rules.{rules}
 use Rattle.table_writer.proofs.judge.judge_record.Goals as goal
 use Rattle.table_writer.proofs.judge.judge_record.Goals.{In-Size-judge_payload}
 

@@ -2,7 +2,6 @@
 use mathlib.Core.Path.{◌∙◌}
 use Rattle.tables.specs.Letters.{errata}
 use Rattle.table_writer.proofs.WholeLaws.{table-tape}
-use borrow.Author.Rules.{rules}
 use Rattle.table_writer.proofs.judge.judge_table.Goals as goal
 
 pub returns : goal.returns

@@ -3,7 +3,6 @@ use mathlib.Core.Path.{sym, ap, ◌∙◌}
 use Rattle.tables.specs.Letters.{errata}
 use Rattle.table_writer.specs.AnswerOf.{answer_of_octets}
 use Rattle.table_writer.proofs.WholeLaws.{tape-refused, tape-left-over, tape-given}
-use borrow.Author.Rules.{rules}
 use Rattle.table_writer.proofs.judge.judge_tape.Goals as goal
 
 pub returns-then-tape-ne0 : goal.returns-then-tape-ne0
