@@ -11,7 +11,7 @@ use lib.Seq.{get_or-drop, drop-drop}
 use lib.Dec.{leb}
 use lib.Pow.{pow_pos}
 use Rattle.types.proofs.Tests.{leb_yes, leb_no, yes_leb, no_leb, decide}
-use Rattle.method.specs.Fields.{Kind, Field, arg, Pooled, Args}
+use Rattle.method.specs.Fields.{Kind, Field, fixed, arg, Pooled, Args}
 use Rattle.method.specs.Properties.{properties, select, flags_of, Header, header}
 use Rattle.method.specs.Words.{width, arg_from, args_from}
 use Rattle.method.specs.AnswerOf.{Optional, is_there, present, with_first, chosen}
@@ -81,6 +81,7 @@ picked : (words : List ℕ) (fs : List Field) (vs : Args Optional fs) (rest : Re
     → selection_of fs vs ≡ cut_from fs (flags_of (length fs) rest.flags) (drop rest.j words)
 unfolding select chosen flags_of args_from cut_args
 picked words [] vs rest h all = refl
+picked words (fixed xs ∷ fs) vs rest h x = elim x [ ]
 picked words (arg k ∷ fs) vs rest h (next {after = after} e f more) =
     let m = ap (λ (r : Rest). r.flags) f ∙ rest-flags (length fs) rest (width (arg k)) h in
     ap (λ (v : Option (Pooled k)). before k fs v (selection_of fs vs.1)) e

@@ -1,9 +1,6 @@
 -- `method_words::commands::known_command` meets its contract. Assumes nothing.
-use mathlib.Core.Path.{◌≡◌, ap, ◌∙◌}
-use mathlib.Core.Bool.{true}
+use mathlib.Core.Path.{ap, ◌∙◌}
 use mathlib.Core.Option.{some}
-use borrow.Author.Rules.{rules}
-use Rattle.method.specs.Commands.{known}
 use Rattle.method_words.specs.Words.{command_with}
 use Rattle.method_words.proofs.CommandLaws.{command-known, layout-known, layout-unknown}
 use Rattle.method_words.proofs.commands.known_command.Goals as goal

@@ -10,4 +10,4 @@ use Rattle.method_words.proofs.headers.next_u64.Goals as goal
 
 pub returns-then-weight-rest : goal.returns-then-weight-rest
 returns-then-weight-rest c =
-    let a = c.args in next-there u64_in a.t1 a.rest a.weight _ c.if-weight-rest.true (word_kept (get_or a.t1 a.rest.j 0) (search rules) ∙ ap (λ (n : ℕ). n % 256 ^ 8) (first_word a.t1 a.rest.j))
+    let a = c.args in next-there u64_in a.words a.rest a.weight _ c.if-weight-rest.true (word_kept (get_or a.t1 a.rest.j 0) (search rules) ∙ ap (λ (n : ℕ). n % 256 ^ 8) (first_word a.t1 a.rest.j))

@@ -1,5 +1,4 @@
 -- `method_words::properties::header_words` meets its contract. Assumes nothing.
-use borrow.Author.Rules.{rules}
 use Rattle.method_words.proofs.PutLaws.{words-put}
 use Rattle.method_words.proofs.properties.header_words.Goals as goal
 

@@ -1,5 +1,4 @@
 -- `method_words::properties::put_number` meets its contract. Assumes nothing.
-use borrow.Author.Rules.{rules}
 use Rattle.method_words.proofs.PutLaws.{put-number}
 use Rattle.method_words.proofs.properties.put_number.Goals as goal
 

@@ -1,8 +1,5 @@
 -- `method_words::properties::put_span` meets its contract. Assumes nothing.
 use mathlib.Core.Path.{ap}
-use native.Mathlib.Omega.{arith}
-use lib.ListN.{length-set}
-use borrow.Author.Rules.{rules}
 use Rattle.method.specs.Fields.{short_str}
 use Rattle.method.specs.AnswerOf.{optional_span}
 use Rattle.method_words.proofs.PutLaws.{put-absent, put-present, put-span}

@@ -1,9 +1,8 @@
 -- `method_words::properties::put_table` meets its contract. Assumes nothing.
 use mathlib.Core.Path.{ap}
-use borrow.Author.Rules.{rules}
 use Rattle.method.specs.Fields.{table}
 use Rattle.method.specs.AnswerOf.{optional_table}
-use Rattle.method_words.proofs.PutLaws.{put-absent, put-present}
+use Rattle.method_words.proofs.PutLaws.{put-absent}
 use Rattle.method_words.proofs.properties.put_table.Goals as goal
 
 pub returns-in-None : goal.returns-in-None

@@ -1,9 +1,8 @@
 -- `method_words::properties::put_u64` meets its contract. Assumes nothing.
 use mathlib.Core.Path.{ap}
-use borrow.Author.Rules.{rules}
 use Rattle.method.specs.Fields.{number}
 use Rattle.method.specs.AnswerOf.{optional_u64}
-use Rattle.method_words.proofs.PutLaws.{put-absent, put-present}
+use Rattle.method_words.proofs.PutLaws.{put-absent}
 use Rattle.method_words.proofs.properties.put_u64.Goals as goal
 
 pub returns-in-None : goal.returns-in-None
