@@ -2,7 +2,6 @@
 use mathlib.Core.Path.{refl}
 use Prim.Native.Nat.{◌%◌, ◌≤◌}
 use native.Mathlib.Omega.{arith}
-use borrow.Author.Rules.{rules}
 use Rattle.method.specs.Properties.{properties}
 use Rattle.method.specs.AnswerOf.{properties_of, header_of}
 use Rattle.method_words.proofs.PickLaws.{rest-place, all, next, header-picked}
