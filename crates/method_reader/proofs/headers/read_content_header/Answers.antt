@@ -1,0 +1,15 @@
+
+use Rattle.tables.specs.Letters.{errata}
+use Rattle.method_reader.proofs.KeptLaws.{header_made}
+use Rattle.method.specs.Reading.{read_header}
+use Rattle.method.specs.Layout.{zeros}
+use Rattle.method_words.specs.Words.{header_words}
+use Rattle.method_words.proofs.InWordsLaws.{at-case, refused-too}
+use Rattle.method_reader.specs.AnswerOf.{answer_of_header_words}
+use borrow.Author.Rules.{rules}
+use Rattle.method_reader.proofs.headers.read_content_header.Goals as goal
+
+-- src/headers.rt:93:1
+pub returns-in-Value : goal.returns-in-Value
+returns-in-Value c =
+    let a = c.args in header_made errata a.s.now a.at.at a.used a.tape.now (λ i. (c.type_inv.s i).fits) c.read_header_words.result _ _ _ c.read_header_words.ensures _ _ _ _ _ _ c.in-Value.is c.header_of.ensures

@@ -1,0 +1,53 @@
+-- `method_writer::sizes::size_fields` meets its contract. The invariant: what it has so far and what is left is the answer. Assumes nothing.
+use mathlib.Core.Path.{sym, ap, ◌∙◌}
+use mathlib.Core.Logic.{⊎_elim}
+use mathlib.Core.Bool.{Bool}
+use Prim.Native.Nat.{◌+◌, ◌-◌, ◌/◌}
+use native.Mathlib.Omega.{arith}
+use lib.ListN.{length, drop, get_or}
+use borrow.Author.Rules.{rules}
+use Rattle.method.specs.Words.{width}
+use Rattle.method.specs.Layout.{field_of}
+use Rattle.method_writer.specs.AnswerOf.{answer_of_size}
+use Rattle.method_writer.proofs.SizeLaws.{so_far, Going, size_small, going_start, going_end, going-absent, going-there, going-refused, going-long, going-octets}
+use Rattle.method_writer.proofs.sizes.size_fields.Goals as goal
+
+pub loop-i-init : goal.loop-i-init
+loop-i-init c =
+    let p = c.requires in going_start _ _ _ _ _ p.0 p.1 p.2
+
+pub size_field-requires : goal.size_field-requires
+size_field-requires c =
+    going-there c.loop-i.invariant c.loop-i-test.true c.if-weight-flags.true
+
+pub returns-in-Refused : goal.returns-in-Refused
+returns-in-Refused c =
+    going-refused c.loop-i.invariant c.loop-i-test.true c.if-weight-flags.true _ (ap answer_of_size (sym c.in-Refused.is) ∙ c.size_field.ensures)
+
+pub overflow_add-size : goal.overflow_add-size
+overflow_add-size c =
+    let a = c.args in
+    let l = c.loop-i in
+    omega (arith, c.requires.1, l.invariant.small, size_small a.pool.now a.tape.now (drop l.j a.words.now) (get_or a.layout.now l.i 0) _ (ap answer_of_size (sym c.in-Octets.is) ∙ c.size_field.ensures))
+
+pub loop-i-preserved : goal.loop-i-preserved
+loop-i-preserved c =
+    let l = c.loop-i in
+    ⊎_elim
+    (λ w.
+    rw (w.5, w.6, w.7, w.8, w.4.ensures)
+    (turned
+    (record {
+      before = record { before = record { before = record { before = ⟪6⟫; if1 = w.0 }; shared-slice-known5 = w.1 }; size-field = w.2 };
+      match = w.3;
+    })))
+    (λ w. rw (w.1, w.2, w.3, w.4) (going-absent l.invariant c.loop-i-test.true w.0.left))
+    c.if-weight-flags.branch
+
+pub returns-then-too_long : goal.returns-then-too_long
+returns-then-too_long c =
+    sym (ap (λ (t : Bool). so_far t c.loop-i.size) c.if-too_long.true) ∙ going_end c.loop-i.invariant c.loop-i-test.false
+
+pub returns : goal.returns
+returns c =
+    sym (ap (λ (t : Bool). so_far t c.loop-i.size) c.if-too_long.false) ∙ going_end c.loop-i.invariant c.loop-i-test.false
