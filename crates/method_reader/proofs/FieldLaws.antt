@@ -23,7 +23,6 @@ use Rattle.method.specs.Reading.{arg_at, arg_tape, fixed_at, fields_at, pooled_a
 use Rattle.method.specs.Words.{width, widths, arg_words, args_words}
 use Rattle.method.specs.Layout.{field_of}
 use Rattle.method.proofs.FieldCodes.{Left, Present, all_left, none_left, present-left, absent-left}
-use Rattle.method.proofs.WordLaws.{length-words}
 use Rattle.method.proofs.Bounds.{arg-within}
 use Rattle.method_reader.specs.declared.fields.TablePlace.{TablePlace}
 use Rattle.method_reader.specs.declared.fields.ReadField.{ReadField}

@@ -7,7 +7,6 @@ use Rattle.method_words.specs.Words.{call_of}
 use Rattle.method_words.specs.InWords.{in_words}
 use Rattle.method_words.proofs.CommandLaws.{layout-known, layout-unknown}
 use Rattle.method_reader.proofs.CommandLaws.{class-refused, method-refused, pair-unknown, pair-known}
-use borrow.Author.Rules.{rules}
 use Rattle.method_reader.proofs.commands.read_call.Goals as goal
 
 -- src/commands.rt:88:21

@@ -1,12 +1,6 @@
 
 use Rattle.tables.specs.Letters.{errata}
 use Rattle.method_reader.proofs.KeptLaws.{call_known, call-unknown}
-use Rattle.method.specs.Reading.{read_command}
-use Rattle.method.specs.Layout.{zeros}
-use Rattle.method_words.specs.Words.{call_of}
-use Rattle.method_words.proofs.InWordsLaws.{at-case, refused-too}
-use Rattle.method_reader.specs.AnswerOf.{answer_of_call}
-use borrow.Author.Rules.{rules}
 use Rattle.method_reader.proofs.commands.read_command.Goals as goal
 
 -- src/commands.rt:97:1

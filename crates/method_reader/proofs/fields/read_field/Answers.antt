@@ -1,7 +1,6 @@
 -- `method_reader::fields::read_field` meets its contract: each arm is the kind of the field. Assumes nothing.
 use mathlib.Core.Path.{refl}
 use Prim.Native.Nat.{◌%◌}
-use borrow.Author.Rules.{rules}
 use Rattle.method.specs.Fields.{number, short_str, bits, login}
 use Rattle.method.specs.Layout.{number_width, places, field_of, fixed_octets}
 use Rattle.method.proofs.FieldCodes.{code-arm, code-rest}

@@ -1,14 +1,10 @@
 -- `method_reader::fields::read_fields` meets its contract: what is left, done, does the whole. In a turn t is where the field is
 -- present, e the loop's head. Assumes nothing.
-use mathlib.Core.Path.{refl, ap, ◌∙◌}
-use mathlib.Core.Logic.{⊎_elim}
-use Prim.Native.Nat.{◌-◌}
-use native.Mathlib.Omega.{arith}
-use lib.ListN.{length}
+use mathlib.Core.Path.{refl, ap}
 use Rattle.method_reader.specs.AnswerOf.{answer_of_field}
-use borrow.Author.Rules.{rules}
-use Rattle.method_reader.proofs.FieldLaws.{Going, going, at-end, turn-absent, words-here, turn-refused, own-fits, turn-plain, turn-table}
+use Rattle.method_reader.proofs.FieldLaws.{at-end, turn-absent, words-here, turn-refused, own-fits, turn-plain, turn-table}
 use Rattle.method_reader.proofs.fields.read_fields.Goals as goal
+use Rattle.method_reader.proofs.fields.read_fields.Goals.{then-weight-flags+in-Value, then-own-ne0, else-own-ne0, else-weight-flags}
 
 pub read_field-requires : goal.read_field-requires
 read_field-requires c =
@@ -26,16 +22,16 @@ pub loop-i-preserved : goal.loop-i-preserved
 loop-i-preserved c =
     let go = c.loop-i.invariant in
     let h = c.loop-i-test.true in
-    ⊎_elim
-    (λ w.
-    let a = ap answer_of_field w.7.given.1 in
-    rw (w.11, w.12, w.13, w.14, w.15, w.16, w.17, w.10.ensures)
-    (⊎_elim
-    (λ t. rw (t.1, t.2, t.3) (turn-table go h w.0.taken _ _ w.3.ensures _ _ a t.0.taken w.3.kept.1.1.1.1.0))
-    (λ t. rw (t.1, t.2, t.3) (turn-plain go h w.0.taken _ _ w.3.ensures _ _ a t.0.left w.3.kept.1.1.1.1.0))
-    w.9.came))
-    (λ w. rw (w.1, w.2, w.3, w.4, w.5, w.6, w.7) (turn-absent go h w.0.left))
-    c.if-weight-flags.branch
+    elim c.if-weight-flags.branch [
+      then-weight-flags+in-Value w ↦
+        let a = ap answer_of_field w.in-Value.is in
+        rw (w.words-is, w.flags-is, w.records-is, w.start-is, w.left-is, w.at-is, w.j-is, w.width_of-j.ensures)
+        (elim w.if-own-ne0.branch [
+          then-own-ne0 w' ↦ rw (w'.records-is, w'.start-is, w'.left-is) (turn-table go h w.if-weight-flags.true _ _ w.read_field.ensures _ _ a w'.if-own-ne0.true w.read_field.auto.words)
+        | else-own-ne0 w' ↦ rw (w'.records-is, w'.start-is, w'.left-is) (turn-plain go h w.if-weight-flags.true _ _ w.read_field.ensures _ _ a w'.if-own-ne0.false w.read_field.auto.words)
+        ])
+    | else-weight-flags w ↦ rw (w.words-is, w.flags-is, w.records-is, w.start-is, w.left-is, w.at-is, w.j-is) (turn-absent go h w.if-weight-flags.false)
+    ]
 
 pub returns : goal.returns
 returns c =

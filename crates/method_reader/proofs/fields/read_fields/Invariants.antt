@@ -1,11 +1,6 @@
-use mathlib.Core.Path.{refl, ap, ◌∙◌}
-use mathlib.Core.Logic.{⊎_elim}
 use Prim.Native.Nat.{◌-◌}
-use native.Mathlib.Omega.{arith}
 use lib.ListN.{length}
-use Rattle.method_reader.specs.AnswerOf.{answer_of_field}
-use borrow.Author.Rules.{rules}
-use Rattle.method_reader.proofs.FieldLaws.{Going, going, at-end, turn-absent, words-here, turn-refused, own-fits, turn-plain, turn-table}
+use Rattle.method_reader.proofs.FieldLaws.{Going}
 use Rattle.method_reader.proofs.fields.read_fields.Given as goal
 
 abbrev pub invariant-loop-i : goal.invariant-loop-i

@@ -20,7 +20,6 @@ use Rattle.method.specs.Layout.{places}
 use Rattle.method.specs.Kinds.Bits.{Flags, packed, flags_in, written_at}
 use Rattle.method_reader.specs.Fields.{flags_or}
 use Rattle.method_reader.proofs.FieldLaws.{stored_refused, stored-given}
-use borrow.Author.Rules.{rules}
 use Rattle.method_reader.proofs.fields.store_bits.Goals as goal
 
 -- flags are fewer than the number that stands for a spare bit

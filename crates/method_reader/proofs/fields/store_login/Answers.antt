@@ -1,11 +1,8 @@
 -- `method_reader::fields::store_login` meets its contract. Assumes nothing.
 use mathlib.Core.Path.{refl, sym, ap, ◌∙◌}
-use native.Mathlib.Omega.{arith}
 use native.Mathlib.Numerals.{towards_suc}
-use lib.ListN.{length-set}
 use Rattle.method_reader.specs.AnswerOf.{answer_of_login}
 use Rattle.method_reader.proofs.FieldLaws.{stored_refused, stored-given}
-use borrow.Author.Rules.{rules}
 use Rattle.method_reader.proofs.fields.store_login.Goals as goal
 
 pub returns-in-Refused : goal.returns-in-Refused

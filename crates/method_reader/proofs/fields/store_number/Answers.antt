@@ -3,7 +3,6 @@ use mathlib.Core.Path.{refl, sym, ap, ◌∙◌}
 use Rattle.types.specs.AnswerOf.{answer_of_u64}
 use Rattle.method.specs.Reading.{arg_at}
 use Rattle.method_reader.proofs.FieldLaws.{stored_refused, stored-given}
-use borrow.Author.Rules.{rules}
 use Rattle.method_reader.proofs.fields.store_number.Goals as goal
 
 pub returns-in-Refused : goal.returns-in-Refused

@@ -1,12 +1,9 @@
 -- `method_reader::fields::store_short_str` meets its contract. Assumes nothing.
 use mathlib.Core.Path.{refl, sym, ap, ◌∙◌}
-use native.Mathlib.Omega.{arith}
 use native.Mathlib.Numerals.{towards_suc}
-use lib.ListN.{length-set}
 use Rattle.types.specs.AnswerOf.{answer_of_span}
 use Rattle.method.specs.Reading.{arg_at}
 use Rattle.method_reader.proofs.FieldLaws.{stored_refused, stored-given}
-use borrow.Author.Rules.{rules}
 use Rattle.method_reader.proofs.fields.store_short_str.Goals as goal
 
 pub returns-in-Refused : goal.returns-in-Refused

@@ -12,7 +12,6 @@ use Rattle.table_reader.proofs.ReaderLaws.{count-given, count-refused}
 use Rattle.method.specs.Fields.{table}
 use Rattle.method.specs.Reading.{arg_at}
 use Rattle.method_reader.proofs.FieldLaws.{stored_refused, stored-given}
-use borrow.Author.Rules.{rules}
 use Rattle.method_reader.proofs.fields.store_table.Goals as goal
 
 module _ (s : List ℕ) (p room : ℕ) where

@@ -1,12 +1,6 @@
 
 use Rattle.tables.specs.Letters.{errata}
 use Rattle.method_reader.proofs.KeptLaws.{header_made}
-use Rattle.method.specs.Reading.{read_header}
-use Rattle.method.specs.Layout.{zeros}
-use Rattle.method_words.specs.Words.{header_words}
-use Rattle.method_words.proofs.InWordsLaws.{at-case, refused-too}
-use Rattle.method_reader.specs.AnswerOf.{answer_of_header_words}
-use borrow.Author.Rules.{rules}
 use Rattle.method_reader.proofs.headers.read_content_header.Goals as goal
 
 -- src/headers.rt:93:1

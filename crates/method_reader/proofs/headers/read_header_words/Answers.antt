@@ -5,7 +5,6 @@ use Rattle.tables.specs.Letters.{errata}
 use Rattle.method_words.specs.Words.{header_words}
 use Rattle.method_words.specs.InWords.{in_words}
 use Rattle.method_reader.proofs.PropertyLaws.{class-refused, weight-refused, weight-read}
-use borrow.Author.Rules.{rules}
 use Rattle.method_reader.proofs.headers.read_header_words.Goals as goal
 
 -- src/headers.rt:74:1

@@ -6,7 +6,6 @@ use Rattle.method.proofs.LayoutLaws.{property-widths}
 use Rattle.method_words.specs.Words.{header_words}
 use Rattle.method_words.specs.InWords.{in_words}
 use Rattle.method_reader.proofs.PropertyLaws.{properties-refused, properties-read}
-use borrow.Author.Rules.{rules}
 use Rattle.method_reader.proofs.headers.read_judged.Goals as goal
 
 -- src/headers.rt:40:11
@@ -17,9 +16,9 @@ read_fields-requires c =
 -- src/headers.rt:25:1
 pub returns-in-Refused : goal.returns-in-Refused
 returns-in-Refused c =
-    let a = c.args in let r = c.read_fields in let l = c.property_fields-layout in ap (in_words header_words (λ x. x.words) a.words.now) (properties-refused errata a.s.now a.used a.tape.now a.class a.body-size a.present a.at _ l.result _ _ r.result _ l.ensures c.room.ensures r.ensures c.in-Refused.is)
+    let a = c.args in let r = c.read_fields in let l = c.property_fields-layout in ap (in_words header_words (λ x. x.words) a.words.now) (properties-refused errata a.s.now a.used a.tape.now a.class a.body_size a.present a.at _ l.result _ _ r.result _ l.ensures c.room.ensures r.ensures c.in-Refused.is)
 
 -- src/headers.rt:25:1
 pub returns-in-Value : goal.returns-in-Value
 returns-in-Value c =
-    let a = c.args in let r = c.read_fields in let l = c.property_fields-layout in properties-read errata a.s.now a.used a.tape.now a.class a.body-size a.present a.at _ l.result _ r.result _ _ _ a.words.now c.requires.1 l.ensures c.room.ensures r.ensures c.in-Value.is c.fill_table.ensures
+    let a = c.args in let r = c.read_fields in let l = c.property_fields-layout in properties-read errata a.s.now a.used a.tape.now a.class a.body_size a.present a.at _ l.result _ r.result _ _ _ a.words.now c.requires.1 l.ensures c.room.ensures r.ensures c.in-Value.is c.fill_table.ensures

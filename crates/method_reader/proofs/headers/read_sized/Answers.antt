@@ -8,7 +8,6 @@ use Rattle.tables.specs.Letters.{errata}
 use Rattle.method_words.specs.Words.{header_words}
 use Rattle.method_words.specs.InWords.{in_words}
 use Rattle.method_reader.proofs.PropertyLaws.{sized-refused, flags-refused, flags-read}
-use borrow.Author.Rules.{rules}
 use Rattle.method_reader.proofs.headers.read_sized.Goals as goal
 
 -- src/headers.rt:67:17

@@ -1,6 +1,5 @@
 -- `method_reader::login::is_utf8` meets its contract. Assumes nothing.
 use mathlib.Core.Path.{sym, ap, ◌∙◌}
-use borrow.Author.Rules.{rules}
 use Rattle.utf8.specs.Utf8.{is_none, utf8}
 use Rattle.utf8.specs.AnswerOf.{answer_of_scan}
 use Rattle.method_reader.proofs.login.is_utf8.Goals as goal

@@ -1,10 +1,8 @@
 -- `method_reader::login::nul_before` meets its contract. Assumes nothing.
-use mathlib.Core.Path.{◌≡◌, refl, sym, ◌∙◌}
-use Prim.Native.Nat.{◌-◌, ◌≤◌}
+use mathlib.Core.Path.{sym, ◌∙◌}
 use native.Mathlib.Omega.{arith}
-use borrow.Author.Rules.{rules}
 use borrow.Author.Tests.{eq-eqb, ne_eqb}
-use Rattle.method_reader.proofs.LoginLaws.{nul_in, nul-here, nul-later, nul-end}
+use Rattle.method_reader.proofs.LoginLaws.{nul-here, nul-later, nul-end}
 use Rattle.method_reader.proofs.login.nul_before.Goals as goal
 
 pub returns-then-s-i-eq0 : goal.returns-then-s-i-eq0

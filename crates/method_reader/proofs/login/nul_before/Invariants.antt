@@ -1,9 +1,6 @@
-use mathlib.Core.Path.{◌≡◌, refl, sym, ◌∙◌}
+use mathlib.Core.Path.{◌≡◌}
 use Prim.Native.Nat.{◌-◌, ◌≤◌}
-use native.Mathlib.Omega.{arith}
-use borrow.Author.Rules.{rules}
-use borrow.Author.Tests.{eq-eqb, ne_eqb}
-use Rattle.method_reader.proofs.LoginLaws.{nul_in, nul-here, nul-later, nul-end}
+use Rattle.method_reader.proofs.LoginLaws.{nul_in}
 use Rattle.method_reader.proofs.login.nul_before.Given as goal
 
 abbrev pub invariant-loop-i : goal.invariant-loop-i

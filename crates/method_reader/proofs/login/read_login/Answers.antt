@@ -1,7 +1,6 @@
 -- `method_reader::login::read_login` meets its contract. Assumes nothing.
 use mathlib.Core.Path.{sym, ap, ◌∙◌}
 use native.Mathlib.Omega.{arith}
-use borrow.Author.Rules.{rules}
 use borrow.Author.Tests.{eq-eqb, ne_eqb}
 use Rattle.types.specs.AnswerOf.{answer_of_span}
 use Rattle.tables.specs.Letters.{errata}
