@@ -19,6 +19,11 @@ use Rattle.writers.specs.Writers.{write_at, write_uint}
 use Rattle.writers.proofs.WriterLaws.{write-full, write-given}
 use Rattle.tables.specs.Letters.{Letters, errata}
 use Rattle.method_words.specs.declared.Call.{Call}
+use Rattle.method_words.specs.declared.HeaderWords.{HeaderWords}
+use Rattle.method_words.proofs.PutLaws.{header-back}
+use Rattle.method.specs.declared.ContentHeader.{ContentHeader}
+use Rattle.method.specs.AnswerOf.{header_of}
+use Rattle.method_words.specs.Words.{header_words}
 use Rattle.method_writer.specs.Calls.{write_call}
 use Rattle.table_writer.specs.Sizes as payload
 use Rattle.table_writer.specs.Emitting.{next_or, Emitted}
@@ -238,39 +243,43 @@ module _ (letters : Letters) (pool tape : List ℕ) where
       → write_call letters pool tape x at out ≡ write_command letters pool tape y at out
   call-written y x is at out = sym (call_known x is.1 at out) ∙ ap (λ z. write_command letters pool tape z at out) (sym is.0)
 
--- A content header with the properties that are present
+-- A content header with the properties that are present, by its words and the layout of the properties
 
-module _ (pool tape : List ℕ) (x : Header Pooled) (c n r : ℕ) (ws layout : List ℕ) (is : x ≡ header_from c n r ws) (small : r < 8192) (laid : map field_of layout ≡ properties) where
-  abbrev pub header_fields : List Field
-  header_fields = select (flags_of 13 r) (map field_of layout)
+abbrev pub header_fields : HeaderWords → List ℕ → List Field
+header_fields h layout = select (flags_of 13 h.present) (map field_of layout)
 
-  abbrev pub header_head : List ℕ
-  header_head = ((number.octets 2 c ++ number.octets 2 0) ++ number.octets 8 n) ++ number.octets 2 (r * 8)
+abbrev pub header_head : HeaderWords → List ℕ
+header_head h = ((number.octets 2 h.class ++ number.octets 2 0) ++ number.octets 8 h.body_size) ++ number.octets 2 (h.present * 8)
 
-  pub header-room : widths header_fields ≤ 22
-  header-room = rw laid (property-widths (flags_of 13 r))
+module _ (pool tape : List ℕ) (x : ContentHeader) (h : HeaderWords) (layout : List ℕ) (e : h ≡ header_words (header_of x)) (laid : map field_of layout ≡ properties) where
+  pub header-asked : length layout ≡ 13 → length h.words ≡ 22 → (h.present < 8192) × (length layout ≤ 13) × (widths (header_fields h layout) ≤ length h.words)
+  header-asked l w =
+      let room : widths (header_fields h layout) ≤ 22 = rw laid (property-widths (flags_of 13 h.present)) in
+      ((header-back x h e).0, omega arith, omega arith)
 
   -- its refusal and its octets, in any use of both
   header-sent : {A : Type 0} (f : Option Refusal → List ℕ → A)
-      → f (refusal_of errata pool tape header_fields (args_from header_fields ws)) (header_head ++ fields_here errata pool tape header_fields ws)
-      ≡ f (header_refusal errata pool tape x) (header_octets errata (pooled_header_meaning errata pool tape x))
+      → f (refusal_of errata pool tape (header_fields h layout) (args_from (header_fields h layout) h.words)) (header_head h ++ fields_here errata pool tape (header_fields h layout) h.words)
+      ≡ f (header_refusal errata pool tape (header_of x)) (header_octets errata (pooled_header_meaning errata pool tape (header_of x)))
   unfolding header_octets octets_of_all
   header-sent f =
-      let fs = select (flags_of 13 r) properties in
-      let rest = field_octets errata fs (args_meaning errata pool tape fs ws) in
-      let flags : r * 8 ≡ 8 * flags_number (flags_of 13 r) = omega (arith, flags-number 13 r (omega arith)) in
-      let size = number.octets 8 n in
-      let last = number.octets 2 (8 * flags_number (flags_of 13 r)) in
-      rw (is, laid, flags)
-      (ap (f (refusal_of errata pool tape fs (args_from fs ws)))
-      (append_assoc ((number.octets 2 c ++ number.octets 2 0) ++ size) last rest
-      ∙ append_assoc (number.octets 2 c ++ number.octets 2 0) size (last ++ rest)
-      ∙ append_assoc (number.octets 2 c) (number.octets 2 0) (size ++ (last ++ rest))))
+      let back = header-back x h e in
+      let fs = select (flags_of 13 h.present) properties in
+      let rest = field_octets errata fs (args_meaning errata pool tape fs h.words) in
+      let flags : h.present * 8 ≡ 8 * flags_number (flags_of 13 h.present) = omega (arith, flags-number 13 h.present back.0) in
+      let class = number.octets 2 h.class in
+      let size = number.octets 8 h.body_size in
+      let last = number.octets 2 (8 * flags_number (flags_of 13 h.present)) in
+      rw (back.1, laid, flags)
+      (ap (f (refusal_of errata pool tape fs (args_from fs h.words)))
+      (append_assoc ((class ++ number.octets 2 0) ++ size) last rest
+      ∙ append_assoc (class ++ number.octets 2 0) size (last ++ rest)
+      ∙ append_assoc class (number.octets 2 0) (size ++ (last ++ rest))))
 
-  pub header-size : size_behind errata pool tape header_fields ws header_head
-      ≡ payload.sized (header_refusal errata pool tape x) (length (header_octets errata (pooled_header_meaning errata pool tape x)))
+  pub header-size : size_behind errata pool tape (header_fields h layout) h.words (header_head h)
+      ≡ payload.sized (header_refusal errata pool tape (header_of x)) (length (header_octets errata (pooled_header_meaning errata pool tape (header_of x))))
   header-size = header-sent (λ r xs. payload.sized r (length xs))
 
-  pub header-behind : (at : ℕ) (out : List ℕ) → behind errata pool tape header_fields ws header_head at out ≡ write_header errata pool tape x at out
+  pub header-behind : (at : ℕ) (out : List ℕ) → behind errata pool tape (header_fields h layout) h.words (header_head h) at out ≡ write_header errata pool tape (header_of x) at out
   unfolding write_header
   header-behind at out = header-sent (λ r xs. write_at r xs at out)

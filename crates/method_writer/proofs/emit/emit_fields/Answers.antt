@@ -8,6 +8,11 @@ use borrow.Author.Rules.{rules}
 use Rattle.method.proofs.FieldCodes.{all_left}
 use Rattle.method_writer.proofs.EmitLaws.{Going, at-end, turn-ready, turn-absent, turn-present}
 use Rattle.method_writer.proofs.emit.emit_fields.Goals as goal
+use Rattle.method_writer.proofs.emit.emit_fields.Goals.{then-weight-flags, else-weight-flags}
+use lib.ListN.{get_or}
+use Rattle.method.specs.Words.{width}
+use Rattle.method.specs.Layout.{field_of}
+use mathlib.Core.Path.{◌≡◌}
 
 pub emit_field-at-requires : goal.emit_field-at-requires
 emit_field-at-requires c =
@@ -16,13 +21,12 @@ emit_field-at-requires c =
 
 pub loop-i-preserved : goal.loop-i-preserved
 loop-i-preserved c =
-    let l = c.loop-i in
-    ⊎_elim
-    (λ w.
-    let n = w.10 ∙ ap (λ (k : ℕ). l.j + k) w.6.ensures in
-    rw (w.7, w.8, w.9, n) (turn-present c.loop-i.invariant c.loop-i-test.true w.0.taken w.3.ensures))
-    (λ w. rw (w.1, w.2, w.3, w.4) (turn-absent c.loop-i.invariant c.loop-i-test.true w.0.left))
-    c.if-weight-flags.branch
+    elim c.if-weight-flags.branch [
+      then-weight-flags w ↦
+        let j : c.if-weight-flags.j ≡ c.loop-i.j + width (field_of (get_or c.args.layout.now c.loop-i.i 0)) = cc in
+        rw (w.out-is, w.flags-is, w.at-is, j) (turn-present c.loop-i.invariant c.loop-i-test.true w.if-weight-flags.true w.emit_field-at.ensures)
+    | else-weight-flags w ↦ rw (w.out-is, w.flags-is, w.at-is, w.j-is) (turn-absent c.loop-i.invariant c.loop-i-test.true w.if-weight-flags.false)
+    ]
 
 pub returns : goal.returns
 returns c =

@@ -11,6 +11,7 @@ use Rattle.method.specs.Layout.{field_of}
 use Rattle.method_writer.specs.AnswerOf.{answer_of_size}
 use Rattle.method_writer.proofs.SizeLaws.{so_far, Going, size_small, going_start, going_end, going-absent, going-there, going-refused, going-long, going-octets}
 use Rattle.method_writer.proofs.sizes.size_fields.Goals as goal
+use Rattle.method_writer.proofs.sizes.size_fields.Goals.{then-weight-flags, in-TooLong, in-Octets, else-weight-flags}
 
 pub loop-i-init : goal.loop-i-init
 loop-i-init c =
@@ -33,16 +34,17 @@ overflow_add-size c =
 pub loop-i-preserved : goal.loop-i-preserved
 loop-i-preserved c =
     let l = c.loop-i in
-    ⊎_elim
-    (λ w.
-    rw (w.5, w.6, w.7, w.8, w.4.ensures)
-    (turned
-    (record {
-      before = record { before = record { before = record { before = ⟪6⟫; if1 = w.0 }; shared-slice-known5 = w.1 }; size-field = w.2 };
-      match = w.3;
-    })))
-    (λ w. rw (w.1, w.2, w.3, w.4) (going-absent l.invariant c.loop-i-test.true w.0.left))
-    c.if-weight-flags.branch
+    let i = c.loop-i-test.true in
+    elim c.if-weight-flags.branch [
+      then-weight-flags w ↦
+        let y = w.if-weight-flags.true in
+        rw (w.flags-is, w.j-is, w.width_of-j.ensures, w.too_long-is, w.size-is)
+        (elim w.match-size_field.branch [
+          in-TooLong v ↦ rw (v.too_long-is, v.size-is) (going-long l.invariant i y (ap answer_of_size (sym v.in-TooLong.is) ∙ w.size_field.ensures))
+        | in-Octets v ↦ rw (v.too_long-is, v.size-is) (going-octets l.invariant i y _ (ap answer_of_size (sym v.in-Octets.is) ∙ w.size_field.ensures))
+        ])
+    | else-weight-flags w ↦ rw (w.flags-is, w.too_long-is, w.size-is, w.j-is) (going-absent l.invariant i w.if-weight-flags.false)
+    ]
 
 pub returns-then-too_long : goal.returns-then-too_long
 returns-then-too_long c =
