@@ -1,5 +1,7 @@
 // The readers and writers for C and Rust. A slice is passed as a pointer and a length, and what is lent as `&mut` overlaps
 // nothing else that is lent. The answer is the code returned and four words: specs/Reply.antt.
+#![tactic(auto)]
+
 mod field_tables;
 mod frames;
 mod methods;

@@ -1,4 +1,6 @@
 // Values and their bits: signed numbers in two's complement, floats, and flags in one octet.
+#![tactic(auto)]
+
 ghost use Rattle.std.specs.Prelude.{◌≡◌};
 ghost use Rattle.std.specs.Float.{binary32, binary64};
 ghost use Rattle.std.specs.Float.Ieee.{to_bits};

@@ -7,9 +7,9 @@ use mathlib.Core.Logic.{◌↔◌}
 use Prim.Native.Nat.{ℕ, zero, suc, ◌+◌, ◌-◌, ◌≤◌, ◌<◌}
 use native.Mathlib.Omega.{arith}
 use native.Mathlib.Nat.{add-zero, zero-add, add_assoc}
-use lib.ListN.{length, take, drop, length-append, length-drop, take-append-drop}
+use lib.ListN.{length, take, drop, length-append, length-drop}
 use lib.Dec.{leb, ltb}
-use lib.Seq.{take-append_seam, length-take-le}
+use lib.Seq.{take-append_seam}
 use Rattle.types.specs.Answer.{Refusal, truncated, Answer, given, refused}
 use Rattle.types.specs.Records.{concat_map}
 use Rattle.types.proofs.Tests.{leb_yes, leb_no, yes_leb, no_leb, decide}

@@ -16,7 +16,7 @@ use Rattle.tables.specs.Tape.{Record, tape_records, WithTape}
 use Rattle.tables.proofs.TapeLaws.{length-concat_map, concat_map-append}
 use Rattle.method.specs.Fields.{Pooled}
 use Rattle.frame.specs.Step.{FrameOf, walk_step_at}
-use Rattle.frame.specs.Walk.{register_records, WalkResult, ended, push, walk_from, WalkOutcome, outcome_of_walk, walk}
+use Rattle.frame.specs.Walk.{register_records, WalkResult, ended, push, walk_from, WalkOutcome, outcome_of_walk}
 use Rattle.frame.proofs.ListLaws.{walk_none, walk-stop, walk-agree, walk_step}
 use Rattle.frame.proofs.FrameLaws.{step_move}
 

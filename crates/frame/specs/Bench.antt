@@ -1,6 +1,5 @@
 -- The bench sheet of document 01, "Bench sheet": its sixteen numbered lines as one table of facts about the definitions.
 use Rattle.std.specs.Prelude.{◌≡◌, true, false, List, [], ◌∷◌, ◌++◌, ℕ, zero, suc, length, replicate}
-use Rattle.std.proofs.Math.Option.{none}
 use Rattle.types.specs.Answer.{Answer, given, refused, truncated, short_str_too_long, unsupported_field_type, too_deep}
 use Rattle.types.specs.Strings.{long_str}
 use Rattle.types.specs.Memory.{outcome}

@@ -1,4 +1,6 @@
 // Frames: the protocol header, the frame types, a frame's place in octets, and what its payload holds.
+#![tactic(auto)]
+
 ghost use Rattle.std.specs.Prelude.{◌≡◌};
 ghost use Rattle.frame.specs.Frame.{known_type};
 ghost use Rattle.frame.specs.Writing.{type_of};

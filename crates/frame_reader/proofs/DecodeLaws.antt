@@ -1,18 +1,17 @@
 -- From what the code reads of a frame's first seven octets to what the decoder answers.
 use mathlib.Core.Path.{◌≡◌, refl, sym, ap, ◌∙◌}
-use mathlib.Core.Bool.{true, false, cond}
+use mathlib.Core.Bool.{true, false}
 use mathlib.Core.Option.{Option, none, some}
 use mathlib.Core.List.{List}
 use Prim.Native.Nat.{ℕ, ◌+◌, ◌≤◌, ◌<◌}
 use native.Mathlib.Omega.{arith}
 use borrow.Author.Tests.{eq-eqb, ne_eqb}
 use lib.ListN.{length, get_or}
-use lib.Dec.{eqb}
 use Rattle.types.specs.Answer.{given, refused, truncated, unsupported_field_type}
 use Rattle.types.specs.Octets.{number_at, uint_at}
 use Rattle.types.proofs.NumberLaws.{Read, uint_at-read}
 use Rattle.types.proofs.Tests.{decide}
-use Rattle.frame.specs.Frame.{is_frame_type, known_type, frame_end, Frame, decode_at}
+use Rattle.frame.specs.Frame.{is_frame_type, known_type, decode_at}
 use Rattle.frame.specs.AnswerOf.{type_octet}
 use Rattle.frame.specs.declared.FrameType.{FrameType}
 use Rattle.frame.specs.declared.FrameType.TheVariants.{Method, Header, Body, Heartbeat}

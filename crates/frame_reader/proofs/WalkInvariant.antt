@@ -16,10 +16,10 @@ use Rattle.tables.specs.Tape.{tape_records, WithTape, WithCount, room_of}
 use Rattle.tables.proofs.TapeLaws.{length-concat_map}
 use Rattle.method.specs.Fields.{Pooled}
 use Rattle.frame.specs.Step.{FrameOf, walk_step_at}
-use Rattle.frame.specs.Walk.{register_records, WalkResult, ended, push, WalkOutcome, walk}
+use Rattle.frame.specs.Walk.{register_records, WalkResult, WalkOutcome, walk}
 use Rattle.frame.proofs.FrameLaws.{step_move, step_room}
 use Rattle.frame.proofs.WalkLaws.{walk_on, on-end, on-stop, on_step, outcome_from, outcome-start, outcome-end, outcome-step}
-use Rattle.frame_reader.specs.Walking.{StepOutcome, step_outcome, slots_of, fill_both}
+use Rattle.frame_reader.specs.Walking.{step_outcome, slots_of, fill_both}
 use Rattle.frame_reader.proofs.WalkStepLaws.{same_count, walked}
 
 module _ (letters : Letters) where

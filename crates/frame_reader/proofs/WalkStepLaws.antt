@@ -1,20 +1,18 @@
 -- From what a decoded frame's payload leaves to what a step of the walk leaves.
-use mathlib.Core.Path.{◌≡◌, refl, sym, ap, ◌∙◌}
+use mathlib.Core.Path.{◌≡◌, sym, ap, ◌∙◌}
 use mathlib.Core.List.{List, [], ◌∷◌}
-use Prim.Native.Nat.{ℕ, ◌+◌, ◌-◌, ◌*◌, ◌≤◌, ◌<◌}
+use Prim.Native.Nat.{ℕ, ◌*◌, ◌≤◌, ◌<◌}
 use native.Mathlib.Omega.{arith}
 use lib.ListN.{length}
 use Rattle.types.specs.Answer.{Refusal, Answer, given, refused, tape_full}
 use Rattle.types.specs.Memory.{splice, Outcome, outcome}
 use Rattle.types.specs.Records.{record_count}
-use Rattle.types.specs.declared.Span.{Span}
 use Rattle.types.proofs.Chain.{given-value}
 use Rattle.types.proofs.Tests.{leb_yes, leb_no}
 use Rattle.tables.specs.Letters.{Letters}
 use Rattle.tables.specs.Tape.{WithTape, WithCount, room_of, fill_tape, records_only}
-use Rattle.method.specs.Fields.{Pooled}
 use Rattle.frame.specs.Frame.{Frame, decode_at}
-use Rattle.frame.specs.Step.{FrameOf, frame_with_payload_at, walk_step_at}
+use Rattle.frame.specs.Step.{frame_with_payload_at, walk_step_at}
 use Rattle.frame.specs.Walk.{register_records}
 use Rattle.frame_reader.specs.Walking.{StepOutcome, step_outcome, slots_of, fill_both}
 use Rattle.frame_reader.proofs.StepLaws.{frame_read}

@@ -1,4 +1,6 @@
 // Readers of frames: the decoder, the reading step, and the walk over octets of any number of frames.
+#![tactic(auto)]
+
 pub mod decode;
 mod fixed_size;
 pub mod step;

@@ -1,14 +1,13 @@
 -- Payloads by kind: what the frame with one is, and the body that is a span of the pool.
 use mathlib.Core.Path.{◌≡◌, refl, sym, ap, ◌∙◌}
-use mathlib.Core.Logic.{◌⊎◌, inl, inr}
+use mathlib.Core.Logic.{inl, inr}
 use mathlib.Core.Option.{Option, none, some}
 use mathlib.Core.List.{List}
 use Prim.Native.Nat.{ℕ, ◌+◌, ◌-◌, ◌≤◌, ◌<◌}
 use native.Mathlib.Omega.{arith}
-use lib.Dec.{leb}
 use lib.ListN.{length, take, drop, length-drop}
 use lib.Seq.{length-take-le}
-use Rattle.types.specs.Answer.{Refusal, Answer, refused, truncated}
+use Rattle.types.specs.Answer.{Refusal, refused, truncated}
 use Rattle.types.specs.Strings.{octets_of}
 use Rattle.types.specs.Judgement.{test}
 use Rattle.types.specs.Memory.{Outcome, outcome}

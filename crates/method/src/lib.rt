@@ -1,5 +1,7 @@
 // Commands and content headers: the types that readers and writers share. A string is a span of a lent pool of octets, which is
 // the input when reading.
+#![tactic(auto)]
+
 pub mod fixed;
 pub mod layout;
 

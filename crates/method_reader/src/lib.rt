@@ -1,4 +1,6 @@
 // Readers of commands and content headers. All octets are judged before the tape is filled, so that a refusal leaves it as it was.
+#![tactic(auto)]
+
 pub mod commands;
 mod fields;
 pub mod headers;

@@ -1,5 +1,7 @@
 // Commands and content headers as words of 64 bits, in wire order, both ways: what loops over a layout read and write, and what other
 // languages lend. A string is two words, its start and length in a pool; a table is its number of tape records.
+#![tactic(auto)]
+
 pub mod calls;
 pub mod commands;
 pub mod headers;

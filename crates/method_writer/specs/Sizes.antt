@@ -1,9 +1,9 @@
 -- What the first pass answers of fields: the first refusal of an argument, a length that is too great, or how many octets there are to write.
 use Rattle.std.proofs.Math.Option.{Option, none, some}
-use Rattle.std.specs.Prelude.{List, [], ℕ, length}
-use Rattle.types.specs.Answer.{Refusal, too_long}
+use Rattle.std.specs.Prelude.{List, ℕ, length}
+use Rattle.types.specs.Answer.{Refusal}
 use Rattle.tables.specs.Letters.{Letters}
-use Rattle.method.specs.Fields.{Kind, Field, fixed, arg, Meaning, Pooled, Args}
+use Rattle.method.specs.Fields.{Kind, Field, fixed, arg, Meaning, Args}
 use Rattle.method.specs.Writing.{arg_octets, field_octets, judge_arg_length, judge_lengths}
 use Rattle.method.specs.Pooled.{pooled_meaning, pooled_meanings, judge_arg, judge_args}
 use Rattle.method.specs.Words.{arg_from, args_from}

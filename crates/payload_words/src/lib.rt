@@ -1,6 +1,8 @@
 // A frame's payload as 26 words of 64 bits, both ways: how it is lent by and to other languages. The first word is the frame type.
 // A command has class, method and eight argument words behind it; a content header class, body size, a bit for each property, and
 // 22 property words; a body its start and length; a heartbeat nothing. Words that are not used are 0.
+#![tactic(auto)]
+
 ghost use Rattle.std.specs.Prelude.{◌≡◌, ◌+◌, ◌≤◌, length};
 ghost use Rattle.types.specs.Memory.{splice};
 ghost use Rattle.method.specs.AnswerOf.{header_of};

@@ -1,5 +1,7 @@
 // A reader: lent octets and the position in them together (document 01, "types.rs: octets and strings"). Each method hands its
 // fields to a function over the octets and the position, which does the work.
+#![tactic(auto)]
+
 ghost use Rattle.std.specs.Prelude.{◌≡◌, ◌-◌, length};
 ghost use Rattle.types.specs.Octets.{uint_at};
 ghost use Rattle.types.specs.Strings.{short_str_at};

@@ -1,4 +1,6 @@
 // The reply readers: of what a broker sends, the few fields that a client waits for. They check no ids and ignore what follows.
+#![tactic(auto)]
+
 ghost use Rattle.std.specs.Prelude.{◌≡◌};
 ghost use Rattle.types.specs.Octets.{uint_at};
 ghost use Rattle.types.specs.Strings.{short_str_at};

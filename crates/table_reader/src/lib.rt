@@ -1,5 +1,7 @@
 // Readers of field tables and of lone values. Each reads twice: the first pass judges and writes nothing, so that a refusal leaves
 // the tape as it was; the second fills the records.
+#![tactic(auto)]
+
 ghost use Rattle.std.specs.Prelude.{◌≡◌};
 ghost use Rattle.types.specs.Memory.{outcome};
 ghost use Rattle.tables.specs.Letters.{errata};

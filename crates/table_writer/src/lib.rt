@@ -1,5 +1,7 @@
 // Writers of field tables and of lone values from a tape over a pool of octets. Each judges every record in order, then the lengths,
 // then the space, and only then writes, so that a refusal leaves the output as it was.
+#![tactic(auto)]
+
 ghost use Rattle.std.specs.Prelude.{◌≡◌, true};
 ghost use Rattle.types.specs.Memory.{outcome};
 ghost use Rattle.writers.specs.AnswerOf.{answer_of_written};

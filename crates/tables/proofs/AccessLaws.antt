@@ -14,7 +14,6 @@ use Rattle.values.specs.Values.{value_of}
 use Rattle.values.specs.declared.FieldValue.{FieldValue}
 use Rattle.values.specs.declared.FieldValue.TheVariants as value
 use Rattle.bits.specs.Signed.{signed}
-use Rattle.tables.specs.Letters as kind
 use Rattle.tables.specs.Letters.{Leaf, number, boolean, decimal, Kind, leaf, container, unknown, Letters, errata, kind_of}
 use Rattle.tables.specs.Forest.{Words}
 use Rattle.tables.specs.Writing.{judge_leaf}

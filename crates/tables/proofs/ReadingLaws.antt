@@ -7,7 +7,7 @@ use native.Mathlib.Omega.{arith}
 use native.Mathlib.Numerals.{sub-one}
 use lib.ListN.{length}
 use lib.Dec.{ltb}
-use Rattle.types.specs.Answer.{Answer, given, refused, Refusal, truncated, unsupported_field_type, too_deep, tape_full, and_then}
+use Rattle.types.specs.Answer.{Answer, given, refused, Refusal, truncated, too_deep, and_then}
 use Rattle.types.specs.Octets.{uint_at}
 use Rattle.types.specs.Strings.{long_str_at, short_str_at}
 use Rattle.types.specs.declared.Span.{Span}
@@ -16,7 +16,7 @@ use Rattle.types.proofs.Chain.{then-go, then-agree, need-given, given-next, give
 use Rattle.types.proofs.RoundTrip.{number-move, number_past, long-move, short-move, long-start}
 use Rattle.tables.specs.Letters as kind
 use Rattle.tables.specs.Letters.{Leaf, number, boolean, decimal, Kind, leaf, container, unknown, Letters, kind_of}
-use Rattle.tables.specs.Forest.{none, item, size, Words, words, LocatedTable}
+use Rattle.tables.specs.Forest.{none, item, size, Words, LocatedTable}
 use Rattle.tables.specs.Reading.{Reader, Value, leaf_at, span_words, no_name, name_at, entries_with_fuel, entries_at, container_at, payload_at, value_with, value_at, table_at, lone_value_at}
 
 -- Where an answer ends: from p on, so many records within the octets and within the room

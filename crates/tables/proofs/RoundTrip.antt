@@ -8,7 +8,7 @@ use native.Mathlib.Nat.{add-zero}
 use lib.ListN.{length, take, drop, length-append}
 use Rattle.types.specs.Answer.{given, refused, truncated}
 use Rattle.types.specs.Octets.{octets}
-use Rattle.types.specs.Strings.{octets_of, short_str, long_str}
+use Rattle.types.specs.Strings.{octets_of, long_str}
 use Rattle.types.proofs.Tests.{leb_yes}
 use Rattle.types.proofs.Standing.{Stands, Cut, stands-left, stands-right}
 use Rattle.types.proofs.NumberLaws.{length-octets}

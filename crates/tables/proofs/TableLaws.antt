@@ -12,7 +12,6 @@ use lib.ListN.{length, length-append}
 use lib.Seq.{take_at, drop_at}
 use Rattle.types.specs.Answer.{given, refused, truncated}
 use Rattle.types.specs.Octets.{octets}
-use Rattle.types.specs.Strings.{long_str}
 use Rattle.types.specs.Records.{RecordFormat, concat_map, first_records, records}
 use Rattle.types.proofs.Tests.{leb_yes, yes_leb}
 use Rattle.types.proofs.Chain.{test-none, or_else-none}

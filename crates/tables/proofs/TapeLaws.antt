@@ -2,13 +2,13 @@
 use mathlib.Core.Path.{◌≡◌, refl, sym, ap, ◌∙◌}
 use mathlib.Core.Bool.{Bool}
 use mathlib.Core.List.{List, [], ◌∷◌, ◌++◌, append_assoc, IsPrefix}
-use Prim.Native.Nat.{ℕ, zero, suc, ◌+◌, ◌-◌, ◌*◌, ◌/◌, ◌≤◌, ◌<◌}
+use Prim.Native.Nat.{ℕ, zero, suc, ◌+◌, ◌*◌, ◌/◌, ◌≤◌, ◌<◌}
 use native.Mathlib.Omega.{arith}
 use native.Mathlib.Nat.{zero-add, add-zero}
 use lib.ListN.{length, take, drop, get_or, length-append, length-take, length-drop, take-append-drop}
 use lib.Seq.{length-take-le, take-append_seam, drop-append_seam, take_at, drop_at, get_or-take, get_or-drop}
 use Rattle.types.specs.Memory.{splice}
-use Rattle.types.specs.Records.{RecordFormat, concat_map, first_records, records}
+use Rattle.types.specs.Records.{RecordFormat, concat_map, first_records}
 use Rattle.types.proofs.Standing.{length-zero}
 use Rattle.types.proofs.Tests.{leb_yes, leb_no}
 use Rattle.types.specs.Answer.{bad_tape}

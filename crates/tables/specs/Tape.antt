@@ -1,5 +1,5 @@
 -- The tape: records of six words in reading order (document 01, "types.rs: tables and the tape"), and readers that fill one.
-use Rattle.std.specs.Prelude.{ℕ, zero, suc, ◌+◌, ◌-◌, ◌*◌, List, [], ◌∷◌, ◌++◌, length, take, drop, get_or, ◌⊎◌, cond, ltb}
+use Rattle.std.specs.Prelude.{ℕ, zero, suc, ◌-◌, ◌*◌, List, [], ◌∷◌, ◌++◌, length, take, drop, get_or, ◌⊎◌, cond, ltb}
 use Rattle.std.proofs.Common.{inl, inr}
 use Rattle.types.specs.Answer.{Answer, Refusal, given, refused, bad_tape, and_then}
 use Rattle.types.specs.Memory.{splice, Outcome, outcome}

@@ -1,4 +1,6 @@
 // Field tables on the wire and on the tape. Reading and writing them stand in crates of their own, over what is here.
+#![tactic(auto)]
+
 pub mod letters;
 pub mod tape;
 

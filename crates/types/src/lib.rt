@@ -1,4 +1,6 @@
 // The wire types of AMQP 0-9-1: the refusals, a position in lent octets, and what readers answer. All numbers are big-endian.
+#![tactic(auto)]
+
 mod floats;
 mod numbers;
 mod refusals;

@@ -1,4 +1,6 @@
 // Dates and times in UTC from POSIX seconds, any 64-bit number of them.
+#![tactic(auto)]
+
 ghost use Rattle.std.specs.Prelude.{◌≡◌, ◌≤◌, ◌<◌};
 ghost use Rattle.utc.specs.Calendar.{leap_year, days_of_year, days_of_month, Shows};
 ghost use Rattle.utc.specs.Parts.{YearOf, MonthOf};

@@ -1,4 +1,6 @@
 // The UTF-8 check of RFC 3629.
+#![tactic(auto)]
+
 ghost use Rattle.std.specs.Prelude.{◌≡◌, true, ◌≤◌, length};
 ghost use Rattle.utf8.specs.Utf8.{none, fault, followers};
 ghost use Rattle.utf8.specs.AnswerOf.{Ascii, answer_of_lead, answer_of_scan};

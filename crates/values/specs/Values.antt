@@ -1,6 +1,6 @@
 -- Leaf values and their words on the tape: document 01, "types.rs: tables and the tape", letters by the RabbitMQ errata.
 -- Signed numbers are two's complement at their own width, floats their bits, unused words 0.
-use Rattle.std.specs.Prelude.{ℕ, ◌^◌, Bool, cond, List, [], ◌∷◌, ltb, eqb}
+use Rattle.std.specs.Prelude.{ℕ, ◌^◌, cond, List, [], ◌∷◌, ltb, eqb}
 use Rattle.std.proofs.Math.Option.{Option, none, some}
 use Rattle.std.specs.Float.{binary32, binary64}
 use Rattle.std.specs.Float.Ieee.{to_bits}

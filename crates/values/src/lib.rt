@@ -1,4 +1,6 @@
 // Leaf values of field tables and their words on the tape: document 01, "types.rs: tables and the tape".
+#![tactic(auto)]
+
 ghost use Rattle.std.specs.Prelude.{◌≡◌, ◌%◌};
 ghost use Rattle.values.specs.Values.{leaf, span, words_of, value_of, within, unused, decimal_of, f32_value, f64_value};
 ghost use Rattle.values.specs.AnswerOf.{answer_of_leaf};

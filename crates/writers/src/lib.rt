@@ -1,4 +1,6 @@
 // Writers into lent octets at a place. Each judges first, so that a refusal has written nothing.
+#![tactic(auto)]
+
 ghost use Rattle.std.specs.Prelude.{◌≡◌, ◌++◌, ◌+◌, ◌≤◌, length, take, drop};
 ghost use Rattle.std.proofs.Math.Option.{none};
 ghost use Rattle.types.specs.Octets.{octets};

@@ -1,6 +1,4 @@
-
 use mathlib.Core.Path.{◌≡◌, ◌∙◌}
-use native.Mathlib.Omega.{arith}
 use lib.ListN.{length}
 use Rattle.payload_words.proofs.PayloadLaws.{header-put}
 use borrow.Author.Rules.{rules}

@@ -1,6 +1,5 @@
 -- `replies::after_ids` meets its contract. Assumes nothing.
 use Rattle.replies.specs.Replies.{skip_ids_at}
-use borrow.Author.Rules.{rules}
 use Rattle.replies.proofs.after_ids.Goals as goal
 
 pub returns-in-Value : goal.returns-in-Value

@@ -1,6 +1,5 @@
 -- `replies::basic_deliver_delivery_tag` meets its contract. Assumes nothing.
 use Rattle.replies.specs.Replies.{basic_deliver_delivery_tag_at}
-use borrow.Author.Rules.{rules}
 use Rattle.replies.proofs.basic_deliver_delivery_tag.Goals as goal
 
 pub returns-in-Value : goal.returns-in-Value

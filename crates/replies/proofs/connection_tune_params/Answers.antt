@@ -1,6 +1,5 @@
 -- `replies::connection_tune_params` meets its contract. Assumes nothing.
 use Rattle.replies.specs.Replies.{after_ids}
-use borrow.Author.Rules.{rules}
 use Rattle.replies.proofs.connection_tune_params.Goals as goal
 
 pub returns-in-Next : goal.returns-in-Next

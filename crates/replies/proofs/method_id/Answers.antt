@@ -1,6 +1,5 @@
 -- `replies::method_id` meets its contract. Assumes nothing.
 use Rattle.replies.specs.Replies.{method_id_at}
-use borrow.Author.Rules.{rules}
 use Rattle.replies.proofs.method_id.Goals as goal
 
 pub returns-in-Value-u16 : goal.returns-in-Value-u16

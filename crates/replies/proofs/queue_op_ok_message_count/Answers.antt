@@ -1,6 +1,5 @@
 -- `replies::queue_op_ok_message_count` meets its contract. Assumes nothing.
 use Rattle.replies.specs.Replies.{after_ids}
-use borrow.Author.Rules.{rules}
 use Rattle.replies.proofs.queue_op_ok_message_count.Goals as goal
 
 pub returns-in-Next : goal.returns-in-Next

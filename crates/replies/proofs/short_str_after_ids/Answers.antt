@@ -1,6 +1,5 @@
 -- `replies::short_str_after_ids` meets its contract. Assumes nothing.
 use Rattle.replies.specs.Replies.{after_ids}
-use borrow.Author.Rules.{rules}
 use Rattle.replies.proofs.short_str_after_ids.Goals as goal
 
 pub returns-in-Next : goal.returns-in-Next

@@ -1,6 +1,5 @@
 -- `replies::tune_params` meets its contract. Assumes nothing.
 use Rattle.replies.specs.Replies.{tune_params_at}
-use borrow.Author.Rules.{rules}
 use Rattle.replies.proofs.tune_params.Goals as goal
 
 pub returns-in-Value-u16 : goal.returns-in-Value-u16

@@ -1,6 +1,5 @@
 -- `utc::date_time` meets its contract: the year, the month and the time of the day take the seconds apart. Assumes nothing.
 use native.Mathlib.Omega.{arith}
-use borrow.Author.Rules.{rules}
 use Rattle.utc.specs.Calendar.{days_of, seconds_of}
 use Rattle.utc.proofs.date_time.Goals as goal
 

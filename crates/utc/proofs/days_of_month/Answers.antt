@@ -1,7 +1,6 @@
 -- `utc::days_of_month` meets its contract. Assumes nothing.
 use mathlib.Core.Path.{sym, ◌∙◌}
 use native.Mathlib.Omega.{arith}
-use borrow.Author.Rules.{rules}
 use Rattle.utc.proofs.MonthLaws.{february, thirty, thirty-one}
 use Rattle.utc.proofs.days_of_month.Goals as goal
 

@@ -1,6 +1,5 @@
 -- `utc::days_of_year` meets its contract. Assumes nothing.
 use mathlib.Core.Path.{sym, ◌∙◌}
-use borrow.Author.Rules.{rules}
 use Rattle.utc.specs.Calendar.{days_of_year}
 use Rattle.utc.proofs.days_of_year.Goals as goal
 

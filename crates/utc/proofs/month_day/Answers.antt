@@ -1,8 +1,6 @@
 -- `utc::month_day` meets its contract. The invariant: the days before the month and those left are all. Assumes nothing.
-use mathlib.Core.Path.{◌≡◌}
-use Prim.Native.Nat.{◌+◌, ◌-◌, ◌≤◌, ◌<◌}
+use Prim.Native.Nat.{◌<◌}
 use native.Mathlib.Omega.{arith}
-use Rattle.utc.specs.Calendar.{days_before_month}
 use Rattle.utc.proofs.MonthLaws.{first-month, next-month, month-left}
 use Rattle.utc.proofs.month_day.Goals as goal
 use Rattle.utc.proofs.month_day.Goals.{Else-left-n}

@@ -1,8 +1,6 @@
 use mathlib.Core.Path.{◌≡◌}
-use Prim.Native.Nat.{◌+◌, ◌-◌, ◌≤◌, ◌<◌}
-use native.Mathlib.Omega.{arith}
+use Prim.Native.Nat.{◌+◌, ◌-◌, ◌≤◌}
 use Rattle.utc.specs.Calendar.{days_before_month}
-use Rattle.utc.proofs.MonthLaws.{first-month, next-month, month-left}
 use Rattle.utc.proofs.month_day.Given as goal
 
 abbrev pub invariant-loop-left : goal.invariant-loop-left

@@ -1,8 +1,7 @@
 -- `utc::year_day` meets its contract. The invariant: the days before the year and those left are all. Assumes nothing.
 use mathlib.Core.Path.{◌≡◌, ap}
-use Prim.Native.Nat.{◌+◌, ◌-◌, ◌*◌, ◌/◌, ◌≤◌}
+use Prim.Native.Nat.{◌+◌, ◌-◌, ◌*◌, ◌/◌}
 use native.Mathlib.Omega.{arith}
-use borrow.Author.Rules.{rules}
 use Rattle.utc.specs.Calendar.{days_before_year}
 use Rattle.utc.proofs.YearLaws.{cycles, next-year, year-long, years-small}
 use Rattle.utc.proofs.year_day.Goals as goal

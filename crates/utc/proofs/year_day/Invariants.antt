@@ -1,9 +1,6 @@
-use mathlib.Core.Path.{◌≡◌, ap}
-use Prim.Native.Nat.{◌+◌, ◌-◌, ◌*◌, ◌/◌, ◌≤◌}
-use native.Mathlib.Omega.{arith}
-use borrow.Author.Rules.{rules}
+use mathlib.Core.Path.{◌≡◌}
+use Prim.Native.Nat.{◌+◌, ◌-◌, ◌≤◌}
 use Rattle.utc.specs.Calendar.{days_before_year}
-use Rattle.utc.proofs.YearLaws.{cycles, next-year, year-long, years-small}
 use Rattle.utc.proofs.year_day.Given as goal
 
 abbrev pub invariant-loop-left : goal.invariant-loop-left

@@ -10,8 +10,7 @@ scan-init c =
     (omega arith, fault-start _)
 
 pub loop-left-init : goal.loop-left-init
-loop-left-init c =
-    (
+loop-left-init c = (
   omega arith,
   omega arith,
   refl,
@@ -23,8 +22,7 @@ scan-preserved c =
     (omega arith, verdict-done _ _ _ _ _ _ _ c.loop-left.invariant.3 c.loop-left-test.false (omega arith) c.loop-left.invariant.2)
 
 pub loop-left-preserved : goal.loop-left-preserved
-loop-left-preserved c =
-    (
+loop-left-preserved c = (
   omega arith,
   omega arith,
   omega arith,

@@ -1,6 +1,5 @@
 -- `writers::put_ends` meets its contract. Assumes nothing.
 use native.Mathlib.Omega.{arith}
-use borrow.Author.Rules.{rules}
 use Rattle.writers.proofs.WriterLaws.{parts-ends}
 use Rattle.writers.proofs.put_ends.Goals as goal
 

@@ -1,9 +1,8 @@
 -- `writers::put_number` meets its contract. The invariant: what is left, put, makes the whole number stand. Assumes nothing.
-use mathlib.Core.Path.{◌≡◌, refl, sym, ap, ◌∙◌}
-use Prim.Native.Nat.{ℕ, ◌≤◌}
+use mathlib.Core.Path.{◌≡◌, sym, ap, ◌∙◌}
+use Prim.Native.Nat.{ℕ}
 use native.Mathlib.Omega.{arith}
-use borrow.Author.Rules.{rules}
-use lib.ListN.{length, length-set}
+use lib.ListN.{length-set}
 use Rattle.types.specs.Octets.{octets}
 use Rattle.types.specs.Memory.{splice}
 use Rattle.types.proofs.Splice.{splice-nil}

@@ -1,13 +1,12 @@
 -- `writers::put_part` meets its contract: the octets go into the part, and from it into the output. Assumes nothing.
-use mathlib.Core.Path.{◌≡◌, refl, sym, ap, ◌∙◌}
+use mathlib.Core.Path.{◌≡◌, sym, ap, ◌∙◌}
 use mathlib.Core.List.{List}
-use Prim.Native.Nat.{◌≤◌, ◌+◌, ◌-◌}
+use Prim.Native.Nat.{◌+◌}
 use native.Mathlib.Numerals.{add-one}
 use native.Mathlib.Omega.{arith}
-use borrow.Author.Rules.{rules}
-use lib.ListN.{length, set, get_or, take, drop, length-set}
-use lib.Seq.{paste, paste-zero, paste-suc}
-use Rattle.writers.proofs.WriterLaws.{part-next, part-all}
+use lib.ListN.{set, get_or, length-set}
+use lib.Seq.{paste, paste-suc}
+use Rattle.writers.proofs.WriterLaws.{part-all}
 use Rattle.writers.proofs.put_part.Goals as goal
 
 pub loop-j-preserved : goal.loop-j-preserved

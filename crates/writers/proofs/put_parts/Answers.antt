@@ -1,10 +1,8 @@
 -- `writers::put_parts` meets its contract. The invariant: the octets before i are put. Assumes nothing.
-use mathlib.Core.Path.{◌≡◌, refl}
-use Prim.Native.Nat.{◌≤◌, ◌+◌, ◌-◌}
+use mathlib.Core.Path.{refl}
+use Prim.Native.Nat.{◌+◌, ◌-◌}
 use native.Mathlib.Omega.{arith}
-use borrow.Author.Rules.{rules}
-use lib.ListN.{length, take}
-use Rattle.types.specs.Memory.{splice}
+use lib.ListN.{length}
 use Rattle.writers.proofs.WriterLaws.{parts_none, parts_next, parts_all}
 use Rattle.writers.proofs.put_parts.Goals as goal
 

@@ -1,10 +1,7 @@
-use mathlib.Core.Path.{◌≡◌, refl}
-use Prim.Native.Nat.{◌≤◌, ◌+◌, ◌-◌}
-use native.Mathlib.Omega.{arith}
-use borrow.Author.Rules.{rules}
+use mathlib.Core.Path.{◌≡◌}
+use Prim.Native.Nat.{◌≤◌, ◌-◌}
 use lib.ListN.{length, take}
 use Rattle.types.specs.Memory.{splice}
-use Rattle.writers.proofs.WriterLaws.{parts_none, parts_next, parts_all}
 use Rattle.writers.proofs.put_parts.Given as goal
 
 abbrev pub invariant-loop-i : goal.invariant-loop-i

@@ -1,7 +1,6 @@
 -- `writers::write_long_str` meets its contract. Assumes nothing.
 use native.Mathlib.Omega.{arith}
 use Rattle.writers.proofs.WriterLaws.{long-too-long, long-written}
-use borrow.Author.Rules.{rules}
 use Rattle.writers.proofs.write_long_str.Goals as goal
 
 pub returns-then-s-gt4294967295 : goal.returns-then-s-gt4294967295

@@ -1,7 +1,6 @@
 -- `writers::write_number` meets its contract. Assumes nothing.
 use native.Mathlib.Omega.{arith}
 use Rattle.writers.proofs.WriterLaws.{number-full, number-given}
-use borrow.Author.Rules.{rules}
 use Rattle.writers.proofs.write_number.Goals as goal
 
 pub returns-then-out-at : goal.returns-then-out-at

@@ -1,6 +1,5 @@
 -- `writers::write_octets` meets its contract: the octets behind no number. Assumes nothing.
 use Rattle.writers.specs.Writers.{write_octets}
-use borrow.Author.Rules.{rules}
 use Rattle.writers.proofs.write_octets.Goals as goal
 
 pub returns : goal.returns

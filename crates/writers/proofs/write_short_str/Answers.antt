@@ -4,7 +4,6 @@ use native.Mathlib.Omega.{arith}
 use Rattle.utf8.specs.AnswerOf.{answer_of_scan}
 use Rattle.utf8.proofs.ScanLaws.{well-formed, ill-formed}
 use Rattle.writers.proofs.WriterLaws.{short-too-long, short-not-utf8, short-written}
-use borrow.Author.Rules.{rules}
 use Rattle.writers.proofs.write_short_str.Goals as goal
 
 pub returns-then-s-gt255 : goal.returns-then-s-gt255

@@ -1,11 +1,10 @@
 -- `frame_reader::decode::decode` meets its contract. Assumes nothing.
 use mathlib.Core.Path.{sym, ap, ◌∙◌}
 use native.Mathlib.Omega.{arith}
-use borrow.Author.Rules.{rules}
 use lib.ListN.{get_or}
-use Rattle.frame.specs.AnswerOf.{type_octet, type_of_known}
+use Rattle.frame.specs.AnswerOf.{type_of_known}
 use Rattle.frame.proofs.FrameLaws.{decode-short, decode-type}
-use Rattle.frame_reader.proofs.DecodeLaws.{type-known, type-unknown}
+use Rattle.frame_reader.proofs.DecodeLaws.{type-unknown}
 use Rattle.frame_reader.proofs.decode.decode.Goals as goal
 
 pub returns-then-s-first : goal.returns-then-s-first

@@ -1,8 +1,7 @@
 -- `frame_reader::decode::decode_known` meets its contract. Assumes nothing.
 use mathlib.Core.Path.{◌≡◌, refl, sym, ap, ◌∙◌}
-use Prim.Native.Nat.{◌+◌, ◌≤◌}
+use Prim.Native.Nat.{◌+◌}
 use native.Mathlib.Omega.{arith}
-use borrow.Author.Rules.{rules}
 use Rattle.types.specs.Answer.{given}
 use Rattle.types.specs.AnswerOf.{answer_of_u16, answer_of_u32}
 use Rattle.types.specs.Octets.{uint_at}

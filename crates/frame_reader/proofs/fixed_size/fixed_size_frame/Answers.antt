@@ -3,7 +3,6 @@ use mathlib.Core.Path.{sym, ◌∙◌}
 use native.Mathlib.Omega.{arith}
 use Rattle.types.proofs.NumberLaws.{Octets, number_at-lt}
 use Rattle.frame_reader.proofs.FixedSizeLaws.{fixed_frame}
-use borrow.Author.Rules.{rules}
 use Rattle.frame_reader.proofs.fixed_size.fixed_size_frame.Goals as goal
 
 pub returns : goal.returns

@@ -1,6 +1,6 @@
 -- `frame_reader::fixed_size::fixed_size_of` meets its contract: each arm is the size of the fields of its command. Assumes nothing.
 use mathlib.Core.Path.{refl}
-use mathlib.Core.Logic.{inl, inr}
+use mathlib.Core.Logic.{inr}
 use native.Mathlib.Omega.{arith}
 use Rattle.method.specs.Commands.{commands, known, fields_of}
 use Rattle.frame_reader.specs.FixedSize.{none, zero, flag, flags, number}

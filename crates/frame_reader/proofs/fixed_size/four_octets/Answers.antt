@@ -3,7 +3,6 @@ use mathlib.Core.Path.{sym, ap, ◌∙◌}
 use native.Mathlib.Omega.{arith}
 use Rattle.types.specs.AnswerOf.{answer_of_u32}
 use Rattle.types.proofs.NumberLaws.{uint_at-read, uint_at-short}
-use borrow.Author.Rules.{rules}
 use Rattle.frame_reader.proofs.fixed_size.four_octets.Goals as goal
 
 pub returns-in-Value : goal.returns-in-Value

@@ -1,12 +1,6 @@
-
 use Rattle.tables.specs.Letters.{errata}
 use Rattle.method.specs.Layout.{zeros}
 use Rattle.frame_reader.proofs.WordLaws.{frame_made, frame-unmade}
-use Rattle.frame.specs.Step.{read_frame}
-use Rattle.method_words.proofs.InWordsLaws.{at-case, refused-too}
-use Rattle.frame_reader.specs.Words.{frame_words}
-use Rattle.frame_reader.specs.AnswerOf.{answer_of_frame_words}
-use borrow.Author.Rules.{rules}
 use Rattle.frame_reader.proofs.step.read_frame.Goals as goal
 
 -- src/step.rt:15:1

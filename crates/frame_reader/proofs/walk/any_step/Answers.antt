@@ -1,13 +1,11 @@
 -- `frame_reader::walk::any_step` meets its contract. Assumes nothing.
-use mathlib.Core.Path.{◌≡◌, sym, ap, ◌∙◌}
+use mathlib.Core.Path.{sym, ap, ◌∙◌}
 use native.Mathlib.Omega.{arith}
-use Rattle.types.specs.Memory.{outcome}
 use Rattle.tables.specs.Letters.{errata}
 use Rattle.table_reader.specs.AnswerOf.{answer_of_records}
 use Rattle.frame.proofs.FrameLaws.{decode-read}
 use Rattle.frame_reader.specs.AnswerOf.{answer_of_decoded}
 use Rattle.frame_reader.proofs.WalkStepLaws.{from-answer, decode-refused, register-full, payload-refused, payload-given}
-use borrow.Author.Rules.{rules}
 use Rattle.frame_reader.proofs.walk.any_step.Goals as goal
 
 pub returns-then-register-k : goal.returns-then-register-k

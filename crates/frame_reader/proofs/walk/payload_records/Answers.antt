@@ -1,9 +1,7 @@
-
-use mathlib.Core.Path.{sym, ap}
+use mathlib.Core.Path.{ap}
 use Prim.Native.Nat.{◌+◌}
 use native.Mathlib.Omega.{arith}
 use lib.ListN.{take}
-use lib.Seq.{length-take-le}
 use Rattle.tables.specs.Letters.{errata}
 use Rattle.tables.specs.Tape.{records_only}
 use Rattle.method.specs.Reading.{read_command, read_header}
@@ -13,7 +11,6 @@ use Rattle.method_reader.specs.AnswerOf.{answer_of_call, answer_of_header_words}
 use Rattle.frame.specs.AnswerOf.{type_octet, frame_of}
 use Rattle.frame_reader.proofs.StepLaws.{with_command, with_header, method-read, header_read, body-read, heartbeat-read, heartbeat-refused}
 use Rattle.frame_reader.proofs.WordLaws.{records-case}
-use borrow.Author.Rules.{rules}
 use Rattle.frame_reader.proofs.walk.payload_records.Goals as goal
 
 -- src/walk.rt:68:17

@@ -3,9 +3,7 @@ use mathlib.Core.List.{[], ◌∷◌}
 use Prim.Native.Nat.{◌*◌}
 use native.Mathlib.Numerals.{towards_suc}
 use native.Mathlib.Omega.{arith}
-use lib.ListN.{length-set}
 use Rattle.types.proofs.Splice.{splice-sets}
-use borrow.Author.Rules.{rules}
 use Rattle.frame_reader.proofs.walk.put_entry.Goals as goal
 
 pub returns : goal.returns

@@ -1,14 +1,10 @@
 -- `frame_reader::walk::walk` meets its contract. The loop's invariant: the rest of the walk, over the memories as they are now, is the
 -- whole walk. The measure is what is left of the octets. Assumes nothing.
-use mathlib.Core.Path.{◌∙◌}
-use Prim.Native.Nat.{◌-◌}
 use native.Mathlib.Omega.{arith}
-use borrow.Author.Rules.{rules}
-use lib.ListN.{length}
 use Rattle.tables.specs.Letters.{errata}
 use Rattle.table_reader.specs.AnswerOf.{answer_of_records}
 use Rattle.frame_reader.proofs.WalkStepLaws.{from_step}
-use Rattle.frame_reader.proofs.WalkInvariant.{Going, start, finish, stop, moved, again}
+use Rattle.frame_reader.proofs.WalkInvariant.{start, finish, stop, moved, again}
 use Rattle.frame_reader.proofs.walk.walk.Goals as goal
 
 pub loop-at-init : goal.loop-at-init

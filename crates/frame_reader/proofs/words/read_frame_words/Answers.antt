@@ -1,4 +1,3 @@
-
 use mathlib.Core.Path.{sym, ap, ◌∙◌}
 use native.Mathlib.Omega.{arith}
 use Rattle.tables.specs.Letters.{errata}
@@ -7,7 +6,6 @@ use Rattle.frame_reader.specs.Words.{frame_words}
 use Rattle.frame_reader.specs.AnswerOf.{answer_of_decoded}
 use Rattle.frame.proofs.FrameLaws.{decode-read}
 use Rattle.frame_reader.proofs.StepLaws.{step-refused, step-decoded}
-use borrow.Author.Rules.{rules}
 use Rattle.frame_reader.proofs.words.read_frame_words.Goals as goal
 
 -- src/words.rt:145:40

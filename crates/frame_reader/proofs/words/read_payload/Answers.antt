@@ -1,7 +1,5 @@
-
-use mathlib.Core.Path.{refl, sym, ap}
+use mathlib.Core.Path.{refl, ap}
 use native.Mathlib.Omega.{arith}
-use lib.Seq.{length-take-le}
 use Rattle.tables.specs.Letters.{errata}
 use Rattle.method_words.specs.InWords.{in_words}
 use Rattle.frame.specs.Step.{body, heartbeat}
@@ -14,7 +12,6 @@ use lib.ListN.{take}
 use Rattle.method.specs.Reading.{read_command, read_header}
 use Rattle.method_words.specs.Words.{call_of, header_words}
 use Rattle.payload_words.specs.Words.{call_words, content_header_words}
-use borrow.Author.Rules.{rules}
 use Rattle.frame_reader.proofs.words.read_payload.Goals as goal
 
 -- src/words.rt:125:17

@@ -1,6 +1,5 @@
 -- `frame_writer::encode::close_frame` meets its contract. Assumes nothing.
 use native.Mathlib.Omega.{arith}
-use borrow.Author.Rules.{rules}
 use Rattle.frame.specs.AnswerOf.{type_octet}
 use Rattle.frame_writer.proofs.EncodeLaws.{put-around}
 use Rattle.frame_writer.proofs.encode.close_frame.Goals as goal

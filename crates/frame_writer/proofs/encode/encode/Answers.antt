@@ -1,6 +1,5 @@
 -- `frame_writer::encode::encode` meets its contract. Assumes nothing.
 use native.Mathlib.Omega.{arith}
-use borrow.Author.Rules.{rules}
 use Rattle.frame.specs.AnswerOf.{type_octet}
 use Rattle.frame_writer.proofs.EncodeLaws.{encode-too-long, encode-no-space, payload-put, encode-given}
 use Rattle.frame_writer.proofs.encode.encode.Goals as goal

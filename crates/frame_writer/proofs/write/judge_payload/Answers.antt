@@ -1,7 +1,6 @@
 -- `frame_writer::write::judge_payload` meets its contract. Assumes nothing.
 use mathlib.Core.Path.{refl}
 use Rattle.frame.specs.Writing.{frame_payload_octets}
-use borrow.Author.Rules.{rules}
 use Rattle.frame_writer.proofs.write.judge_payload.Goals as goal
 
 pub returns-in-Command : goal.returns-in-Command

@@ -1,9 +1,7 @@
 -- `frame_writer::write::write_body` meets its contract. Assumes nothing.
 use mathlib.Core.Path.{sym, ap, ◌∙◌}
-use native.Mathlib.Omega.{arith}
 use Rattle.method_writer.specs.AnswerOf.{answer_of_payload_size}
-use Rattle.frame_writer.proofs.KindLaws.{body-fits, body-written, body_refused}
-use borrow.Author.Rules.{rules}
+use Rattle.frame_writer.proofs.KindLaws.{body-written, body_refused}
 use Rattle.frame_writer.proofs.write.write_body.Goals as goal
 
 pub returns-in-Refused : goal.returns-in-Refused

@@ -1,15 +1,13 @@
 -- `frame_writer::write::write_frame` meets its contract. Assumes nothing.
-use mathlib.Core.Path.{refl, sym, ap, ◌∙◌}
+use mathlib.Core.Path.{refl, ap, ◌∙◌}
 use mathlib.Core.List.{◌++◌}
 use native.Mathlib.Omega.{arith}
 use lib.ListN.{drop}
-use lib.Seq.{length-take-le}
 use Rattle.writers.specs.AnswerOf.{answer_of_written}
 use Rattle.frame.specs.Writing.{type_of}
 use Rattle.frame.specs.AnswerOf.{type_octet, payload_of}
 use Rattle.frame_writer.proofs.PayloadLaws.{Judged, Accepted, accepted, with-written, with-refused}
 use Rattle.frame_writer.proofs.KindLaws.{payload_judged, frame-with}
-use borrow.Author.Rules.{rules}
 use Rattle.frame_writer.proofs.write.write_frame.Goals as goal
 use Rattle.frame_writer.proofs.write.write_frame.Goals.{After-close_frame-arg-1}
 

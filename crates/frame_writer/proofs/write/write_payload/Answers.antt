@@ -2,7 +2,6 @@
 use Rattle.writers.specs.Writers.{write_octets}
 use Rattle.method.specs.Pooled.{write_command, write_header}
 use Rattle.frame.specs.Writing.{frame_payload_octets}
-use borrow.Author.Rules.{rules}
 use Rattle.frame_writer.proofs.write.write_payload.Goals as goal
 
 pub returns-in-Command : goal.returns-in-Command

@@ -1,4 +1,3 @@
-
 use Rattle.tables.specs.Letters.{errata}
 use Rattle.method_reader.proofs.KeptLaws.{call_known, call-unknown}
 use Rattle.method_reader.proofs.commands.read_command.Goals as goal

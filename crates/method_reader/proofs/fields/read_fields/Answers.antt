@@ -23,14 +23,14 @@ loop-i-preserved c =
     let go = c.loop-i.invariant in
     let h = c.loop-i-test.true in
     elim c.if-weight-flags.branch [
-      then-weight-flags+in-Value w ↦
-        let a = ap answer_of_field w.in-Value.is in
-        rw (w.words-is, w.flags-is, w.records-is, w.start-is, w.left-is, w.at-is, w.j-is, w.width_of-j.ensures)
-        (elim w.if-own-ne0.branch [
-          then-own-ne0 w' ↦ rw (w'.records-is, w'.start-is, w'.left-is) (turn-table go h w.if-weight-flags.true _ _ w.read_field.ensures _ _ a w'.if-own-ne0.true w.read_field.auto.words)
-        | else-own-ne0 w' ↦ rw (w'.records-is, w'.start-is, w'.left-is) (turn-plain go h w.if-weight-flags.true _ _ w.read_field.ensures _ _ a w'.if-own-ne0.false w.read_field.auto.words)
-        ])
-    | else-weight-flags w ↦ rw (w.words-is, w.flags-is, w.records-is, w.start-is, w.left-is, w.at-is, w.j-is) (turn-absent go h w.if-weight-flags.false)
+      | then-weight-flags+in-Value w ↦
+          let a = ap answer_of_field w.in-Value.is in
+          rw (w.words-is, w.flags-is, w.records-is, w.start-is, w.left-is, w.at-is, w.j-is, w.width_of-j.ensures)
+          (elim w.if-own-ne0.branch [
+            | then-own-ne0 w' ↦ rw (w'.records-is, w'.start-is, w'.left-is) (turn-table go h w.if-weight-flags.true _ _ w.read_field.ensures _ _ a w'.if-own-ne0.true w.read_field.auto.words)
+            | else-own-ne0 w' ↦ rw (w'.records-is, w'.start-is, w'.left-is) (turn-plain go h w.if-weight-flags.true _ _ w.read_field.ensures _ _ a w'.if-own-ne0.false w.read_field.auto.words)
+          ])
+      | else-weight-flags w ↦ rw (w.words-is, w.flags-is, w.records-is, w.start-is, w.left-is, w.at-is, w.j-is) (turn-absent go h w.if-weight-flags.false)
     ]
 
 pub returns : goal.returns

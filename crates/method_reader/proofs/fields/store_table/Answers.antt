@@ -18,10 +18,10 @@ module _ (s : List ℕ) (p room : ℕ) where
   table-refused : (e : Refusal) → table_at errata s p room ≡ refused e → arg_at errata table s p room ≡ refused e
   unfolding arg_at
   table-refused e h = rw h
+
   table-read : (t : LocatedTable) (q : ℕ) → table_at errata s p room ≡ given t q → arg_at errata table s p room ≡ given (record { start = p; entries = t }) q
   unfolding arg_at
   table-read t q h = rw h
-
 
 pub returns-in-Refused : goal.returns-in-Refused
 returns-in-Refused c =

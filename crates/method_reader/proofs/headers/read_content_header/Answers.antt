@@ -1,4 +1,3 @@
-
 use Rattle.tables.specs.Letters.{errata}
 use Rattle.method_reader.proofs.KeptLaws.{header_made}
 use Rattle.method_reader.proofs.headers.read_content_header.Goals as goal

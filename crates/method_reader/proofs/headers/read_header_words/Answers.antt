@@ -1,4 +1,3 @@
-
 use mathlib.Core.Path.{sym, ap, ◌∙◌}
 use Rattle.types.specs.AnswerOf.{answer_of_u16}
 use Rattle.tables.specs.Letters.{errata}

@@ -1,4 +1,3 @@
-
 use mathlib.Core.Path.{ap}
 use native.Mathlib.Omega.{arith}
 use Rattle.tables.specs.Letters.{errata}

@@ -3,7 +3,6 @@ use mathlib.Core.Path.{refl, sym, ap}
 use mathlib.Core.Option.{none}
 use Rattle.values.specs.Values.{FromWords, leaf_letters, value_of}
 use Rattle.tables.proofs.LetterLaws.{lookup-past}
-use borrow.Author.Rules.{rules}
 use Rattle.tables.proofs.TapeRecord.value.Goals as goal
 
 pub returns-then-letter-gt255 : goal.returns-then-letter-gt255

@@ -2,7 +2,6 @@
 use mathlib.Core.Path.{◌∙◌}
 use Rattle.tables.specs.Letters.{kind_of}
 use Rattle.tables.proofs.LetterLaws.{row-digit, other-digit}
-use borrow.Author.Rules.{rules}
 use Rattle.tables.proofs.letters.digit_of.Goals as goal
 
 pub returns-then-letter-eq4 : goal.returns-then-letter-eq4

@@ -2,7 +2,6 @@
 use mathlib.Core.Path.{sym}
 use native.Mathlib.Omega.{arith}
 use Rattle.tables.proofs.TapeLaws.{record-there, record-missing}
-use borrow.Author.Rules.{rules}
 use Rattle.tables.proofs.tape.record_at.Goals as goal
 
 pub returns-then-tape-k : goal.returns-then-tape-k

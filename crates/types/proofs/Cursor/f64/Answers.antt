@@ -1,6 +1,5 @@
 -- `types::Cursor::f64` meets its contract. Assumes nothing.
 use mathlib.Core.Path.{sym, ap, ◌∙◌}
-use borrow.Author.Rules.{rules}
 use lib.Ieee.{binary64}
 use Rattle.types.specs.AnswerOf.{answer_of_u64}
 use Rattle.types.proofs.FloatLaws.{above-is-nan, below-is-float, below-is-no-nan, float_at-given, float_at-refused}

@@ -2,7 +2,6 @@
 use mathlib.Core.Path.{sym, ap, ◌∙◌}
 use Rattle.types.specs.AnswerOf.{answer_of_u32}
 use Rattle.types.proofs.StringLaws.{long_str-given, long_str-refused}
-use borrow.Author.Rules.{rules}
 use Rattle.types.proofs.Cursor.long_str.Goals as goal
 
 pub returns-in-Value : goal.returns-in-Value

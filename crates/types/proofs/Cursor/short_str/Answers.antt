@@ -8,7 +8,6 @@ use Rattle.types.specs.Octets.{uint_at}
 use Rattle.types.specs.Strings.{span_at}
 use Rattle.types.specs.AnswerOf.{answer_of_u8, answer_of_span}
 use Rattle.types.proofs.StringLaws.{span_at-read, scanned, short_str-given, short_str-not_utf8, short_str-cut, short_str-refused}
-use borrow.Author.Rules.{rules}
 use Rattle.types.proofs.Cursor.short_str.Goals as goal
 use Rattle.types.proofs.Cursor.short_str.Goals.{In-Value-span}
 

@@ -1,6 +1,5 @@
 -- `types::Cursor::skip_field_table` meets its contract. Assumes nothing.
 use mathlib.Core.Path.{sym, ap, ◌∙◌}
-use borrow.Author.Rules.{rules}
 use Rattle.types.specs.AnswerOf.{answer_of_span}
 use Rattle.types.proofs.StringLaws.{skip-given, skip-refused}
 use Rattle.types.proofs.Cursor.skip_field_table.Goals as goal

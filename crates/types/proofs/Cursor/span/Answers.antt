@@ -1,7 +1,6 @@
 -- `types::Cursor::span` meets its contract. Assumes nothing.
 use native.Mathlib.Omega.{arith}
 use Rattle.types.proofs.StringLaws.{span_at-given, span_at-truncated}
-use borrow.Author.Rules.{rules}
 use Rattle.types.proofs.Cursor.span.Goals as goal
 
 pub returns-then-s-at : goal.returns-then-s-at

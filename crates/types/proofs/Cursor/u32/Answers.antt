@@ -1,6 +1,5 @@
 -- `types::Cursor::u32` meets its contract. Assumes nothing.
 use mathlib.Core.Path.{sym, ap, ◌∙◌}
-use borrow.Author.Rules.{rules}
 use Rattle.types.specs.AnswerOf.{answer_of_number}
 use Rattle.types.proofs.NumberLaws.{uint_at-lt}
 use Rattle.types.proofs.Cursor.u32.Goals as goal

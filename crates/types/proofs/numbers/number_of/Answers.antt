@@ -1,6 +1,6 @@
 -- `types::numbers::number_of` meets its contract. The invariant: the number of the first i octets, below 256 ^ i. Assumes nothing.
-use mathlib.Core.Path.{◌≡◌, refl}
-use Prim.Native.Nat.{◌≤◌, ◌<◌, ◌-◌, ◌+◌, ◌^◌, ◌*◌}
+use mathlib.Core.Path.{refl}
+use Prim.Native.Nat.{◌<◌, ◌+◌, ◌^◌, ◌*◌}
 use native.Mathlib.Omega.{arith}
 use lib.ListN.{get_or}
 use Rattle.types.specs.Octets.{number_at}
@@ -31,8 +31,7 @@ overflow_add-n c =
     record { fits = grown (goal.at.overflow_add-n c).After-shared_slice_known-1 }
 
 pub loop-i-preserved : goal.loop-i-preserved
-loop-i-preserved c =
-    (
+loop-i-preserved c = (
   omega arith,
   number_at-more _ _ _ _ c.loop-i.invariant.1,
   more_lt _ _ _ c.loop-i.invariant.2 (octet (goal.at.loop-i-preserved c).After-shared_slice_known-1),

@@ -1,9 +1,6 @@
-use mathlib.Core.Path.{◌≡◌, refl}
-use Prim.Native.Nat.{◌≤◌, ◌<◌, ◌-◌, ◌+◌, ◌^◌, ◌*◌}
-use native.Mathlib.Omega.{arith}
-use lib.ListN.{get_or}
+use mathlib.Core.Path.{◌≡◌}
+use Prim.Native.Nat.{◌≤◌, ◌<◌, ◌-◌, ◌^◌}
 use Rattle.types.specs.Octets.{number_at}
-use Rattle.types.proofs.NumberLaws.{number_at-more, more_lt, more-fits}
 use Rattle.types.proofs.numbers.number_of.Given as goal
 
 abbrev pub invariant-loop-i : goal.invariant-loop-i

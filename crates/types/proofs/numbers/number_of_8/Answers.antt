@@ -3,7 +3,6 @@ use mathlib.Core.Path.{subst⁻¹}
 use Prim.Native.Nat.{ℕ, ◌<◌, ◌^◌}
 use native.Mathlib.Omega.{arith}
 use Rattle.types.proofs.NumberLaws.{number_at-lt, number_at-halves}
-use borrow.Author.Rules.{rules}
 use Rattle.types.proofs.numbers.number_of_8.Goals as goal
 use Rattle.types.proofs.numbers.number_of_8.Goals.{After-number_of-low}
 

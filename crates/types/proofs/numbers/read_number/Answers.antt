@@ -3,7 +3,6 @@ use mathlib.Core.Path.{◌≡◌, sym}
 use Prim.Native.Nat.{ℕ}
 use native.Mathlib.Omega.{arith}
 use Rattle.types.proofs.NumberLaws.{uint_at-given, uint_at-truncated}
-use borrow.Author.Rules.{rules}
 use Rattle.types.proofs.numbers.read_number.Goals as goal
 
 pub returns-then-s-at : goal.returns-then-s-at

@@ -3,7 +3,6 @@ use mathlib.Core.Path.{refl, sym, ap, ◌∙◌}
 use mathlib.Core.List.{[], ◌∷◌}
 use mathlib.Core.Option.{none, some}
 use Prim.Native.Nat.{◌^◌}
-use borrow.Author.Rules.{rules}
 use lib.IntN.{ℤ}
 use mir.Syntax.{w8, w16, w32, w64}
 use Rattle.values.specs.Values.{unused, within, f32_value, FromWords, leaf_letters, value_of}
