@@ -23,13 +23,13 @@ size_field-requires c =
 
 pub returns-in-Refused : goal.returns-in-Refused
 returns-in-Refused c =
-    going-refused c.loop-i.invariant c.loop-i-test.true c.if-weight-flags.true _ (ap answer_of_size (sym c.in-Refused.is) ∙ c.size_field.ensures)
+    going-refused c.loop-i.invariant c.loop-i-test.true c.if-weight-flags.true _ c.in-Refused.ensures
 
 pub overflow_add-size : goal.overflow_add-size
 overflow_add-size c =
     let a = c.args in
     let l = c.loop-i in
-    omega (arith, c.requires.1, l.invariant.small, size_small a.pool.now a.tape.now (drop l.j a.words.now) (get_or a.layout.now l.i 0) _ (ap answer_of_size (sym c.in-Octets.is) ∙ c.size_field.ensures))
+    omega (arith, c.requires.1, l.invariant.small, size_small a.pool.now a.tape.now (drop l.j a.words.now) (get_or a.layout.now l.i 0) _ c.in-Octets.ensures)
 
 pub loop-i-preserved : goal.loop-i-preserved
 loop-i-preserved c =
@@ -40,8 +40,8 @@ loop-i-preserved c =
         let y = w.if-weight-flags.true in
         rw (w.flags-is, w.j-is, w.width_of-j.ensures, w.too_long-is, w.size-is)
         (elim w.match-size_field.branch [
-          in-TooLong v ↦ rw (v.too_long-is, v.size-is) (going-long l.invariant i y (ap answer_of_size (sym v.in-TooLong.is) ∙ w.size_field.ensures))
-        | in-Octets v ↦ rw (v.too_long-is, v.size-is) (going-octets l.invariant i y _ (ap answer_of_size (sym v.in-Octets.is) ∙ w.size_field.ensures))
+          in-TooLong v ↦ rw (v.too_long-is, v.size-is) (going-long l.invariant i y v.in-TooLong.ensures)
+        | in-Octets v ↦ rw (v.too_long-is, v.size-is) (going-octets l.invariant i y _ v.in-Octets.ensures)
         ])
     | else-weight-flags w ↦ rw (w.flags-is, w.too_long-is, w.size-is, w.j-is) (going-absent l.invariant i w.if-weight-flags.false)
     ]

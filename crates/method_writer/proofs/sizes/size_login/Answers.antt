@@ -10,12 +10,12 @@ pub returns-in-Octets-size_text : goal.returns-in-Octets-size_text
 returns-in-Octets-size_text c =
     let a = c.args in
     c.login_size.ensures
-    ∙ login-given a.pool.now a.words.now a.j _ (ap answer_of_size (sym c.in-Octets.is) ∙ c.size_text.ensures) _ (ap answer_of_size (sym c.in-Octets-size_text.is) ∙ c.size_text-in-Octets.ensures)
+    ∙ login-given a.pool.now a.words.now a.j _ c.in-Octets.ensures _ c.in-Octets-size_text.ensures
 
 pub returns-in_default-size_text : goal.returns-in_default-size_text
 returns-in_default-size_text c =
     let a = c.args in
-    password-refused a.pool.now a.words.now a.j _ (ap answer_of_size (sym c.in-Octets.is) ∙ c.size_text.ensures) _ (not-octets c.size_text-in-Octets.result (opened c.in_default-size_text.in_default-size_text-own.keys2)) c.size_text-in-Octets.ensures
+    password-refused a.pool.now a.words.now a.j _ c.in-Octets.ensures _ (not-octets c.size_text-in-Octets.result (opened c.in_default-size_text.in_default-size_text-own.keys2)) c.size_text-in-Octets.ensures
 
 pub returns-in_default : goal.returns-in_default
 returns-in_default c =
