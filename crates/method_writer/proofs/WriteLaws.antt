@@ -29,12 +29,12 @@ use Rattle.method_writer.specs.Calls.{write_call}
 use Rattle.table_writer.specs.Sizes as payload
 use Rattle.table_writer.specs.Emitting.{next_or, Emitted}
 use Rattle.table_writer.proofs.EmitLaws.{number-emitted, emitted-length, emitted-after}
-use Rattle.method.specs.Fields.{number, Field, fixed, arg, Meaning, Pooled, Args}
+use Rattle.method.specs.Fields.{Field, fixed, arg, Meaning, Pooled, Args}
 use Rattle.method.specs.Commands.{commands, fields_in, known, fields_of, Command}
-use Rattle.method.specs.Properties.{properties, select, flags_number, flags_of, Header}
+use Rattle.method.specs.Properties.{properties, select, flags_number, flags_of}
 use Rattle.method.specs.Writing.{command_octets, header_octets, field_octets, judge_arg_length, judge_lengths}
 use Rattle.method.specs.Pooled.{judge_args, refusal_of, command_refusal, header_refusal, pooled_command_meaning, pooled_header_meaning, write_command, write_header}
-use Rattle.method.specs.Words.{width, widths, args_from, command_from, header_from}
+use Rattle.method.specs.Words.{width, widths, args_from, command_from}
 use Rattle.method.specs.Layout.{field_of, layout_fields}
 use Rattle.method.specs.declared.layout.Layout.{Layout}
 use Rattle.method.proofs.LayoutLaws.{known-fields, command-widths, all-present, property-widths}

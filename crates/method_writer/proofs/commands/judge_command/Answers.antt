@@ -1,17 +1,12 @@
 -- `method_writer::commands::judge_command` meets its contract. Assumes nothing.
-use mathlib.Core.Path.{◌≡◌, refl, ap, ◌∙◌}
-use mathlib.Core.Bool.{not}
-use mathlib.Core.List.{List}
-use Prim.Native.Nat.{ℕ, ◌+◌, ◌≤◌, ◌<◌}
+use mathlib.Core.Path.{◌∙◌}
+use Prim.Native.Nat.{◌≤◌, ◌<◌}
 use native.Mathlib.Omega.{arith}
 use borrow.Author.Rules.{rules}
 use lib.ListN.{length, take}
-use Rattle.types.specs.Octets as number
 use Rattle.tables.specs.Letters.{errata}
-use Rattle.table_writer.specs.Emitting.{Emitted}
-use Rattle.table_writer.proofs.EmitLaws.{number-emitted, emitted-length}
 use Rattle.method.specs.Properties.{flags_of}
-use Rattle.method.specs.Words.{widths, command_from}
+use Rattle.method.specs.Words.{widths}
 use Rattle.method.specs.AnswerOf.{command_of}
 use Rattle.method_words.proofs.CallLaws.{call_back}
 use Rattle.method_writer.proofs.WriteLaws.{size-refused, size-long, size-octets, fields-small, command_fields, command_head, command-asked, command-size}

@@ -1,8 +1,7 @@
 -- `method_writer::commands::write_fields` meets its contract. Assumes nothing.
-use mathlib.Core.Path.{◌≡◌, refl, ap, ◌∙◌}
+use mathlib.Core.Path.{refl, ap, ◌∙◌}
 use mathlib.Core.Bool.{not}
-use mathlib.Core.List.{List}
-use Prim.Native.Nat.{ℕ, ◌+◌, ◌≤◌, ◌<◌}
+use Prim.Native.Nat.{◌+◌, ◌≤◌, ◌<◌}
 use native.Mathlib.Omega.{arith}
 use borrow.Author.Rules.{rules}
 use lib.ListN.{length, take}
@@ -12,8 +11,6 @@ use Rattle.table_writer.specs.Emitting.{Emitted}
 use Rattle.table_writer.proofs.EmitLaws.{number-emitted, emitted-length}
 use Rattle.method.specs.Properties.{flags_of}
 use Rattle.method.specs.Words.{widths, command_from}
-use Rattle.method.specs.AnswerOf.{command_of}
-use Rattle.method_words.proofs.CallLaws.{call_back}
 use Rattle.method_writer.proofs.WriteLaws.{number-after, behind-refused, behind-long, behind-full, behind-ready, behind-written, is-full, has_room, fields-small, command_fields, command_head, command-asked, command-behind}
 use Rattle.method_writer.proofs.commands.write_fields.Goals as goal
 use Rattle.method_writer.proofs.commands.write_fields.Goals.{Start, Else-not-has_space, After-next_of-start}

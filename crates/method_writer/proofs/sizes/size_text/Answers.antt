@@ -1,11 +1,8 @@
 -- `method_writer::sizes::size_text` meets its contract. Assumes nothing.
-use mathlib.Core.Path.{sym, ap, ◌∙◌}
 use mathlib.Core.Bool.{true, false}
 use native.Mathlib.Omega.{arith}
-use Rattle.utf8.specs.AnswerOf.{answer_of_scan}
 use Rattle.utf8.proofs.ScanLaws.{well-formed, ill-formed}
-use Rattle.method_writer.proofs.SizeLaws.{scanned, span-outside, text-scanned}
-use borrow.Author.Rules.{rules}
+use Rattle.method_writer.proofs.SizeLaws.{scanned, text-scanned}
 use Rattle.method_writer.proofs.sizes.size_text.Goals as goal
 
 pub returns-in-WellFormed : goal.returns-in-WellFormed
