@@ -12,7 +12,7 @@ use lib.Seq.{get_or-drop, drop-drop}
 use types.Run.{OneOf, miss}
 use denote.Enum.Declared.{tag_of}
 use Rattle.utf8.specs.Utf8.{Fault, fault, utf8}
-use Rattle.types.specs.Answer.{Refusal, truncated, short_str_too_long, not_utf8, too_long}
+use Rattle.types.specs.Answer.{Refusal, truncated, not_utf8}
 use Rattle.types.specs.Strings.{octets_of, short_str, long_str, judge_short_str, judge_length}
 use Rattle.types.specs.Judgement.{test, or_else}
 use Rattle.types.specs.declared.Span.{Span}
@@ -138,15 +138,9 @@ module _ (pool : List ℕ) (start len : ℕ) where
   pub scanned : {f : Fault} → f ≡ fault (take (start + len - start) (drop start pool)) → f ≡ fault (octets_of pool span)
   scanned e = let k : start + len - start ≡ len = omega arith in e ∙ ap (λ (m : ℕ). fault (take m (drop start pool))) k
 
-  pub span-outside : (more : Option Refusal) (n : ℕ) → length pool < start + len → refused truncated ≡ sized (test (in_pool pool start len) truncated more) none n
-  span-outside more n h = sym (rw (leb_no (start + len) (length pool) h))
-
   module _ (inside : start + len ≤ length pool) where
     pub text-scanned : (b : Bool) → utf8 (octets_of pool span) ≡ b → sized (test b not_utf8 none) none len ≡ sized (judge_text pool span none) none len
     text-scanned b u = sym (rw (leb_yes (start + len) (length pool) inside, u))
-
-    pub short-long : (n : ℕ) → 255 < len → refused short_str_too_long ≡ sized (test (in_pool pool start len) truncated (judge_short_str (octets_of pool span))) none n
-    short-long n h = sym (rw (leb_yes (start + len) (length pool) inside, leb_no (length (octets_of pool span)) 255 (omega (arith, span-length pool span inside))))
 
     pub short-scanned : (n : ℕ) (b : Bool) → len ≤ 255 → utf8 (octets_of pool span) ≡ b
         → sized (test b not_utf8 none) none n ≡ sized (test (in_pool pool start len) truncated (judge_short_str (octets_of pool span))) none n

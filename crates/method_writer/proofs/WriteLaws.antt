@@ -7,6 +7,7 @@ use mathlib.Core.List.{List, [], ◌∷◌, ◌++◌, map, append_assoc}
 use Prim.Native.Nat.{ℕ, ◌+◌, ◌*◌, ◌≤◌, ◌<◌}
 use native.Mathlib.Omega.{arith}
 use lib.ListN.{length, take, drop, length-append}
+use lib.Seq.{length-take-le}
 use lib.Dec.{leb}
 use Rattle.types.specs.Answer as answer
 use Rattle.types.specs.Answer.{Refusal, Answer, given, too_long, no_space}
@@ -28,12 +29,12 @@ use Rattle.method_writer.specs.Calls.{write_call}
 use Rattle.table_writer.specs.Sizes as payload
 use Rattle.table_writer.specs.Emitting.{next_or, Emitted}
 use Rattle.table_writer.proofs.EmitLaws.{number-emitted, emitted-length, emitted-after}
-use Rattle.method.specs.Fields.{number, Field, fixed, arg, Meaning, Pooled, Args}
+use Rattle.method.specs.Fields.{Field, fixed, arg, Meaning, Pooled, Args}
 use Rattle.method.specs.Commands.{commands, fields_in, known, fields_of, Command}
-use Rattle.method.specs.Properties.{properties, select, flags_number, flags_of, Header}
+use Rattle.method.specs.Properties.{properties, select, flags_number, flags_of}
 use Rattle.method.specs.Writing.{command_octets, header_octets, field_octets, judge_arg_length, judge_lengths}
 use Rattle.method.specs.Pooled.{judge_args, refusal_of, command_refusal, header_refusal, pooled_command_meaning, pooled_header_meaning, write_command, write_header}
-use Rattle.method.specs.Words.{width, widths, args_from, command_from, header_from}
+use Rattle.method.specs.Words.{width, widths, args_from, command_from}
 use Rattle.method.specs.Layout.{field_of, layout_fields}
 use Rattle.method.specs.declared.layout.Layout.{Layout}
 use Rattle.method.proofs.LayoutLaws.{known-fields, command-widths, all-present, property-widths}
@@ -194,35 +195,39 @@ fields-small pool tape (true ∷ ps) (c ∷ layout) ws n e =
 
 -- A command whose fields are all present in its layout
 
-module _ (pool tape : List ℕ) (x : Command Pooled) (c m : ℕ) (ws : List ℕ) (l : Layout) (is : (x ≡ command_from c m ws) × (known c m ≡ true))
-    (laid : layout_fields l ≡ fields_in commands c m) where
-  abbrev pub command_fields : List Field
-  command_fields = select (flags_of 13 8191) (map field_of (take l.count l.fields))
+abbrev pub command_fields : Layout → List Field
+command_fields l = select (flags_of 13 8191) (map field_of (take l.count l.fields))
 
-  abbrev pub command_head : List ℕ
-  command_head = number.octets 2 c ++ number.octets 2 m
+abbrev pub command_head : Call → List ℕ
+command_head call = number.octets 2 call.class ++ number.octets 2 call.method
 
-  command-fields : command_fields ≡ fields_of c m
-  command-fields = all-present l c m (laid ∙ known-fields c m is.1)
+module _ (pool tape : List ℕ) (x : Command Pooled) (call : Call) (l : Layout) (is : (x ≡ command_from call.class call.method call.words) × (known call.class call.method ≡ true))
+    (laid : layout_fields l ≡ fields_in commands call.class call.method) where
+  command-fields : command_fields l ≡ fields_of call.class call.method
+  command-fields = all-present l call.class call.method (laid ∙ known-fields call.class call.method is.1)
 
-  pub command-room : widths command_fields ≤ 8
-  command-room = rw command-fields (command-widths c m)
+  pub command-asked : l.count ≤ 8 → length l.fields ≡ 8 → length call.words ≡ 8
+      → (8191 < 8192) × (length (take l.count l.fields) ≤ 13) × (widths (command_fields l) ≤ length call.words)
+  command-asked few fs ws =
+      let room : widths (command_fields l) ≤ 8 = rw command-fields (command-widths call.class call.method) in
+      (omega arith, omega (arith, length-take-le l.count l.fields (omega arith)), omega arith)
 
   -- its refusal and its octets, in any use of both
   command-sent : {A : Type 0} (f : Option Refusal → List ℕ → A)
-      → f (refusal_of errata pool tape command_fields (args_from command_fields ws)) (command_head ++ fields_here errata pool tape command_fields ws)
+      → f (refusal_of errata pool tape (command_fields l) (args_from (command_fields l) call.words)) (command_head call ++ fields_here errata pool tape (command_fields l) call.words)
       ≡ f (command_refusal errata pool tape x) (command_octets errata (pooled_command_meaning errata pool tape x))
   unfolding command_octets octets_of_all
   command-sent f =
+      let fs = fields_of call.class call.method in
       rw (is.0, command-fields)
-      (ap (f (refusal_of errata pool tape (fields_of c m) (args_from (fields_of c m) ws)))
-      (append_assoc (number.octets 2 c) (number.octets 2 m) (field_octets errata (fields_of c m) (args_meaning errata pool tape (fields_of c m) ws))))
+      (ap (f (refusal_of errata pool tape fs (args_from fs call.words)))
+      (append_assoc (number.octets 2 call.class) (number.octets 2 call.method) (field_octets errata fs (args_meaning errata pool tape fs call.words))))
 
-  pub command-size : size_behind errata pool tape command_fields ws command_head
+  pub command-size : size_behind errata pool tape (command_fields l) call.words (command_head call)
       ≡ payload.sized (command_refusal errata pool tape x) (length (command_octets errata (pooled_command_meaning errata pool tape x)))
   command-size = command-sent (λ r xs. payload.sized r (length xs))
 
-  pub command-behind : (at : ℕ) (out : List ℕ) → behind errata pool tape command_fields ws command_head at out ≡ write_command errata pool tape x at out
+  pub command-behind : (at : ℕ) (out : List ℕ) → behind errata pool tape (command_fields l) call.words (command_head call) at out ≡ write_command errata pool tape x at out
   unfolding write_command
   command-behind at out = command-sent (λ r xs. write_at r xs at out)
 

@@ -1,9 +1,7 @@
-
 use mathlib.Core.Path.{◌∙◌}
 use Rattle.tables.specs.Letters.{errata}
 use Rattle.method_words.proofs.CommandLaws.{layout-known, layout-unknown}
 use Rattle.method_writer.proofs.WriteLaws.{call_known, call-unknown}
-use borrow.Author.Rules.{rules}
 use Rattle.method_writer.proofs.commands.write_call.Goals as goal
 
 -- src/commands.rt:89:9

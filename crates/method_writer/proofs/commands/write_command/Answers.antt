@@ -1,10 +1,8 @@
-
 use mathlib.Core.Path.{◌∙◌}
 use Rattle.tables.specs.Letters.{errata}
 use Rattle.method.specs.AnswerOf.{command_of}
 use Rattle.method_words.proofs.CallLaws.{call_back}
 use Rattle.method_writer.proofs.WriteLaws.{call-written}
-use borrow.Author.Rules.{rules}
 use Rattle.method_writer.proofs.commands.write_command.Goals as goal
 
 -- src/commands.rt:95:1

@@ -1,11 +1,6 @@
-use mathlib.Core.Path.{refl, ap, ◌∙◌}
-use mathlib.Core.Logic.{⊎_elim}
-use Prim.Native.Nat.{ℕ, ◌+◌, ◌-◌}
-use native.Mathlib.Omega.{arith}
+use Prim.Native.Nat.{◌-◌}
 use lib.ListN.{length}
-use borrow.Author.Rules.{rules}
-use Rattle.method.proofs.FieldCodes.{all_left}
-use Rattle.method_writer.proofs.EmitLaws.{Going, at-end, turn-ready, turn-absent, turn-present}
+use Rattle.method_writer.proofs.EmitLaws.{Going}
 use Rattle.method_writer.proofs.emit.emit_fields.Given as goal
 
 abbrev pub invariant-loop-i : goal.invariant-loop-i

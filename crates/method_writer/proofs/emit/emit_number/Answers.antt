@@ -22,4 +22,4 @@ returns-in-4 c =
 
 pub returns-in_default : goal.returns-in_default
 returns-in_default c =
-    width-emitted c.args.digit 8 c.args.n _ (rest 8 ((4 ∷ []) ∷ (2 ∷ []) ∷ (1 ∷ []) ∷ []) c.args.digit (row 1 1 ∷ row 2 2 ∷ row 4 4 ∷ []) c.in_default.in_default-own.rest tt) refl c.requires c.write_u64.ensures c.next_of-in_default.ensures
+    width-emitted c.args.digit 8 c.args.n _ (rest 8 ((4 ∷ []) ∷ (2 ∷ []) ∷ (1 ∷ []) ∷ []) c.args.digit (row 1 1 ∷ row 2 2 ∷ row 4 4 ∷ []) (search rules) tt) refl c.requires c.write_u64.ensures c.next_of-in_default.ensures

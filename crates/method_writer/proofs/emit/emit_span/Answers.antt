@@ -1,5 +1,4 @@
 -- `method_writer::emit::emit_span` meets its contract. Assumes nothing.
-use borrow.Author.Rules.{rules}
 use Rattle.table_writer.proofs.EmitLaws.{span-emitted}
 use Rattle.method_writer.proofs.emit.emit_span.Goals as goal
 

@@ -1,18 +1,11 @@
 -- `method_writer::headers::judge_content_header` meets its contract. Assumes nothing.
-use mathlib.Core.Path.{◌≡◌, sym, ap, ◌∙◌}
-use mathlib.Core.Bool.{not}
-use mathlib.Core.List.{List, [], ◌++◌, map}
-use Prim.Native.Nat.{ℕ, ◌+◌, ◌*◌, ◌≤◌, ◌<◌}
+use mathlib.Core.Path.{◌≡◌, ◌∙◌}
+use mathlib.Core.List.{[]}
 use native.Mathlib.Omega.{arith}
 use borrow.Author.Rules.{rules}
 use lib.ListN.{length}
-use Rattle.types.specs.Octets as number
 use Rattle.tables.specs.Letters.{errata}
-use Rattle.table_writer.specs.Emitting.{Emitted}
-use Rattle.table_writer.proofs.EmitLaws.{number-emitted, emitted-length}
 use Rattle.method.specs.Properties.{flags_of}
-use Rattle.method_words.specs.declared.HeaderWords.{HeaderWords}
-use Rattle.method_words.proofs.PutLaws.{header-back}
 use Rattle.method_writer.proofs.WriteLaws.{size-refused, size-long, size-octets, fields-small, header_fields, header_head, header-asked, header-size}
 use Rattle.method_writer.proofs.headers.judge_content_header.Goals as goal
 

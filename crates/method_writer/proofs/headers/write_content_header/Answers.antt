@@ -1,8 +1,8 @@
 -- `method_writer::headers::write_content_header` meets its contract. Assumes nothing.
 use mathlib.Core.Path.{◌≡◌, ap, ◌∙◌}
 use mathlib.Core.Bool.{not}
-use mathlib.Core.List.{List, [], ◌++◌, map}
-use Prim.Native.Nat.{ℕ, ◌+◌, ◌*◌, ◌≤◌, ◌<◌}
+use mathlib.Core.List.{[], ◌++◌}
+use Prim.Native.Nat.{◌+◌, ◌*◌, ◌≤◌}
 use native.Mathlib.Omega.{arith}
 use borrow.Author.Rules.{rules}
 use lib.ListN.{length}
@@ -11,7 +11,6 @@ use Rattle.tables.specs.Letters.{errata}
 use Rattle.table_writer.specs.Emitting.{Emitted}
 use Rattle.table_writer.proofs.EmitLaws.{number-emitted, emitted-length}
 use Rattle.method.specs.Properties.{flags_of}
-use Rattle.method_words.specs.declared.HeaderWords.{HeaderWords}
 use Rattle.method_words.proofs.PutLaws.{header-back}
 use Rattle.method_writer.proofs.WriteLaws.{number-after, behind-refused, behind-long, behind-full, behind-ready, behind-written, is-full, has_room, fields-small, header_fields, header_head, header-asked, header-behind}
 use Rattle.method_writer.proofs.headers.write_content_header.Goals as goal

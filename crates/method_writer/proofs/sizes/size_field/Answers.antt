@@ -58,4 +58,4 @@ returns-in-15 c =
 pub returns-in_default : goal.returns-in_default
 returns-in_default c =
     let a = c.args in
-    of-kind a.pool.now a.tape.now (drop a.j a.words.now) _ (field_of a.field) _ (code-rest a.field c.in_default.in_default-own.rest) (ap octets c.fixed_len.ensures ∙ fixed-size a.pool.now a.tape.now (drop a.j a.words.now) _)
+    of-kind a.pool.now a.tape.now (drop a.j a.words.now) _ (field_of a.field) _ (code-rest a.field (search rules)) (ap octets c.fixed_len.ensures ∙ fixed-size a.pool.now a.tape.now (drop a.j a.words.now) _)

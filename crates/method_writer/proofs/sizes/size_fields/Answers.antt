@@ -1,15 +1,9 @@
 -- `method_writer::sizes::size_fields` meets its contract. The invariant: what it has so far and what is left is the answer. Assumes nothing.
 use mathlib.Core.Path.{sym, ap, ◌∙◌}
-use mathlib.Core.Logic.{⊎_elim}
 use mathlib.Core.Bool.{Bool}
-use Prim.Native.Nat.{◌+◌, ◌-◌, ◌/◌}
 use native.Mathlib.Omega.{arith}
-use lib.ListN.{length, drop, get_or}
-use borrow.Author.Rules.{rules}
-use Rattle.method.specs.Words.{width}
-use Rattle.method.specs.Layout.{field_of}
-use Rattle.method_writer.specs.AnswerOf.{answer_of_size}
-use Rattle.method_writer.proofs.SizeLaws.{so_far, Going, size_small, going_start, going_end, going-absent, going-there, going-refused, going-long, going-octets}
+use lib.ListN.{drop, get_or}
+use Rattle.method_writer.proofs.SizeLaws.{so_far, size_small, going_start, going_end, going-absent, going-there, going-refused, going-long, going-octets}
 use Rattle.method_writer.proofs.sizes.size_fields.Goals as goal
 use Rattle.method_writer.proofs.sizes.size_fields.Goals.{then-weight-flags, in-TooLong, in-Octets, else-weight-flags}
 
@@ -23,27 +17,27 @@ size_field-requires c =
 
 pub returns-in-Refused : goal.returns-in-Refused
 returns-in-Refused c =
-    going-refused c.loop-i.invariant c.loop-i-test.true c.if-weight-flags.true _ (ap answer_of_size (sym c.in-Refused.is) ∙ c.size_field.ensures)
+    going-refused c.loop-i.invariant c.loop-i-test.true c.if-weight-flags.true _ c.in-Refused.ensures
 
 pub overflow_add-size : goal.overflow_add-size
 overflow_add-size c =
     let a = c.args in
     let l = c.loop-i in
-    omega (arith, c.requires.1, l.invariant.small, size_small a.pool.now a.tape.now (drop l.j a.words.now) (get_or a.layout.now l.i 0) _ (ap answer_of_size (sym c.in-Octets.is) ∙ c.size_field.ensures))
+    omega (arith, c.requires.1, l.invariant.small, size_small a.pool.now a.tape.now (drop l.j a.words.now) (get_or a.layout.now l.i 0) _ c.in-Octets.ensures)
 
 pub loop-i-preserved : goal.loop-i-preserved
 loop-i-preserved c =
     let l = c.loop-i in
     let i = c.loop-i-test.true in
     elim c.if-weight-flags.branch [
-      then-weight-flags w ↦
-        let y = w.if-weight-flags.true in
-        rw (w.flags-is, w.j-is, w.width_of-j.ensures, w.too_long-is, w.size-is)
-        (elim w.match-size_field.branch [
-          in-TooLong v ↦ rw (v.too_long-is, v.size-is) (going-long l.invariant i y (ap answer_of_size (sym v.in-TooLong.is) ∙ w.size_field.ensures))
-        | in-Octets v ↦ rw (v.too_long-is, v.size-is) (going-octets l.invariant i y _ (ap answer_of_size (sym v.in-Octets.is) ∙ w.size_field.ensures))
-        ])
-    | else-weight-flags w ↦ rw (w.flags-is, w.too_long-is, w.size-is, w.j-is) (going-absent l.invariant i w.if-weight-flags.false)
+      | then-weight-flags w ↦
+          let y = w.if-weight-flags.true in
+          rw (w.flags-is, w.j-is, w.width_of-j.ensures, w.too_long-is, w.size-is)
+          (elim w.match-size_field.branch [
+            | in-TooLong v ↦ rw (v.too_long-is, v.size-is) (going-long l.invariant i y v.in-TooLong.ensures)
+            | in-Octets v ↦ rw (v.too_long-is, v.size-is) (going-octets l.invariant i y _ v.in-Octets.ensures)
+          ])
+      | else-weight-flags w ↦ rw (w.flags-is, w.too_long-is, w.size-is, w.j-is) (going-absent l.invariant i w.if-weight-flags.false)
     ]
 
 pub returns-then-too_long : goal.returns-then-too_long

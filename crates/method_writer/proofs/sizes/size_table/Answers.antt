@@ -2,7 +2,6 @@
 use mathlib.Core.Path.{sym, ap, ◌∙◌}
 use Rattle.table_writer.specs.AnswerOf.{answer_of_table_size}
 use Rattle.method_writer.proofs.SizeLaws.{table-refused, table-long, table-given}
-use borrow.Author.Rules.{rules}
 use Rattle.method_writer.proofs.sizes.size_table.Goals as goal
 
 pub returns-then-n-gt-MAX_LENGTH : goal.returns-then-n-gt-MAX_LENGTH
