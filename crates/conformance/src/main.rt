@@ -145,6 +145,11 @@ fn end(rt: HostRuntime, count: Count, out: &mut [u8]) {
     print::flush(rt, out, last);
 }
 
+// The number of the last argument that names a file, the first being the program's own name; 1, where none does.
+fn last_file(arguments: usize) -> usize {
+    if arguments < 2 { 1 } else { arguments - 1 }
+}
+
 // Whether there is an argument i, of any length.
 fn is_argument(rt: HostRuntime, i: usize) -> bool {
     let mut first = [0u8; 1];
@@ -152,6 +157,14 @@ fn is_argument(rt: HostRuntime, i: usize) -> bool {
         Err(FillError::NotPresent) => false,
         _ => true,
     }
+}
+
+fn argument_count(rt: HostRuntime) -> usize {
+    let mut n = 0;
+    while n < usize::MAX && is_argument(rt, n) {
+        n += 1;
+    }
+    n
 }
 
 // The lines of the file of this name. One that cannot be opened has none.
@@ -197,18 +210,18 @@ fn try_argument(
     }
 }
 
-// The files one by one, the first argument being the program's own name; standard input where none is named.
+// The files one by one; standard input where none is named.
 fn try_files(rt: HostRuntime, text: &mut [u8], pool: &mut [u8], tape: &mut [u64], out: &mut [u8]) {
-    let first = Count {
+    let mut count = Count {
         cases: 0,
         wrong: 0,
         pending: 0,
     };
-    let mut count = try_argument(rt, 1, first, text, pool, tape, out);
-    let mut i = 2;
-    while i < usize::MAX && is_argument(rt, i) {
-        count = try_argument(rt, i, count, text, pool, tape, out);
+    let files = last_file(argument_count(rt));
+    let mut i = 0;
+    while i < files {
         i += 1;
+        count = try_argument(rt, i, count, text, pool, tape, out);
     }
     end(rt, count, out);
 }
