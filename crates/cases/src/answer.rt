@@ -8,7 +8,7 @@ use types::{Span, WireError};
 use writers::Written;
 
 // A refusal by document 01's number, or 0; up to three values; where octets stand, if any were read; and a word, by its number.
-#[derive(Drop)]
+#[derive(Clone, Copy)]
 pub struct Told {
     pub refusal: u8,
     pub next: usize,
@@ -79,99 +79,106 @@ pub fn of_written(w: Written) -> Told {
 }
 
 // Two digits an octet, `-` for none.
-fn octets(out: &mut [u8], at: usize, s: &[u8]) -> usize
+fn octets(rt: HostRuntime, out: &mut [u8], at: usize, s: &[u8]) -> usize
     ensures { result ≤ length out.old }
 {
     if s.len() == 0 {
-        return print::put(out, at, b'-');
+        return print::put(rt, out, at, b'-');
     }
-    print::octets(out, at, s)
+    print::octets(rt, out, at, s)
 }
 
 // A number behind `separator`.
-pub fn and_number(out: &mut [u8], at: usize, separator: u8, n: u64) -> usize
+pub fn and_number(rt: HostRuntime, out: &mut [u8], at: usize, separator: u8, n: u64) -> usize
     ensures { result ≤ length out.old }
 {
-    let next = print::put(out, at, separator);
-    print::hex(out, next, n)
+    let next = print::put(rt, out, at, separator);
+    print::hex(rt, out, next, n)
 }
 
 // The octets of a span, behind `separator`. A span that reaches outside `s`, as no reader answers it, shows as `?`.
-pub fn and_span(out: &mut [u8], at: usize, separator: u8, s: &[u8], v: Span) -> usize
+pub fn and_span(
+    rt: HostRuntime,
+    out: &mut [u8],
+    at: usize,
+    separator: u8,
+    s: &[u8],
+    v: Span,
+) -> usize
     ensures { result ≤ length out.old }
 {
-    let next = print::put(out, at, separator);
+    let next = print::put(rt, out, at, separator);
     let start = v.start;
     let len = v.len;
     if s.len() < start {
-        return print::put(out, next, b'?');
+        return print::put(rt, out, next, b'?');
     }
     if s.len() - start < len {
-        return print::put(out, next, b'?');
+        return print::put(rt, out, next, b'?');
     }
     let end = start + len;
-    octets(out, next, &s[start..end])
+    octets(rt, out, next, &s[start..end])
 }
 
 // The first value, then the second and the third, where there are so many.
-fn and_values(t: Told, separator: u8, out: &mut [u8], at: usize) -> usize {
+fn and_values(rt: HostRuntime, t: Told, separator: u8, out: &mut [u8], at: usize) -> usize {
     if t.count == 0 {
         return at;
     }
-    let one = and_number(out, at, separator, t.first);
+    let one = and_number(rt, out, at, separator, t.first);
     if t.count == 1 {
         return one;
     }
-    let two = and_number(out, one, separator, t.second);
+    let two = and_number(rt, out, one, separator, t.second);
     if t.count == 2 {
         return two;
     }
-    and_number(out, two, separator, t.third)
+    and_number(rt, out, two, separator, t.third)
 }
 
 // The number of a refusal and its values, each behind `separator`.
-pub fn refusal(t: Told, separator: u8, out: &mut [u8], at: usize) -> usize {
-    let next = print::decimal(out, at, t.refusal as u64);
-    and_values(t, separator, out, next)
+pub fn refusal(rt: HostRuntime, t: Told, separator: u8, out: &mut [u8], at: usize) -> usize {
+    let next = print::decimal(rt, out, at, t.refusal as u64);
+    and_values(rt, t, separator, out, next)
 }
 
-fn and_octets(t: Told, s: &[u8], out: &mut [u8], at: usize) -> usize {
+fn and_octets(rt: HostRuntime, t: Told, s: &[u8], out: &mut [u8], at: usize) -> usize {
     if !t.has_octets {
         return at;
     }
     let v = t.octets;
-    and_span(out, at, b' ', s, v)
+    and_span(rt, out, at, b' ', s, v)
 }
 
-fn and_word(t: Told, out: &mut [u8], at: usize) -> usize {
+fn and_word(rt: HostRuntime, t: Told, out: &mut [u8], at: usize) -> usize {
     let word = t.word;
     match word {
-        NAN => print::text(out, at, b" nan"),
-        NEGATIVE => print::text(out, at, b" negative"),
-        ILL_FORMED => print::text(out, at, b" ill-formed"),
+        NAN => print::text(rt, out, at, b" nan"),
+        NEGATIVE => print::text(rt, out, at, b" negative"),
+        ILL_FORMED => print::text(rt, out, at, b" ill-formed"),
         _ => at,
     }
 }
 
 // Values, octets and a word, those that there are.
-pub fn and_rest(t: Told, s: &[u8], out: &mut [u8], at: usize) -> usize {
-    let with_values = and_values(t, b' ', out, at);
-    let with_octets = and_octets(t, s, out, with_values);
-    and_word(t, out, with_octets)
+pub fn and_rest(rt: HostRuntime, t: Told, s: &[u8], out: &mut [u8], at: usize) -> usize {
+    let with_values = and_values(rt, t, b' ', out, at);
+    let with_octets = and_octets(rt, t, s, out, with_values);
+    and_word(rt, t, out, with_octets)
 }
 
 // What a function has read of `s`.
-pub fn shown(t: Told, s: &[u8], out: &mut [u8], at: usize) -> usize {
+pub fn shown(rt: HostRuntime, t: Told, s: &[u8], out: &mut [u8], at: usize) -> usize {
     if t.refusal == NO_CASE {
-        return print::put(out, at, b'?');
+        return print::put(rt, out, at, b'?');
     }
     if t.refusal != 0 {
-        let start = print::text(out, at, b"! ");
-        return refusal(t, b' ', out, start);
+        let start = print::text(rt, out, at, b"! ");
+        return refusal(rt, t, b' ', out, start);
     }
-    let start = print::put(out, at, b'=');
-    let next = and_number(out, start, b' ', t.next as u64);
-    and_rest(t, s, out, next)
+    let start = print::put(rt, out, at, b'=');
+    let next = and_number(rt, out, start, b' ', t.next as u64);
+    and_rest(rt, t, s, out, next)
 }
 
 // Whether lent octets are as `fill` left them, but for those from one place to another.
@@ -186,17 +193,24 @@ fn kept_but(lent: &[u8], from: usize, to: usize) -> bool {
 }
 
 // What a writer has written from `from` on, if it has changed nothing else; nothing at all, if it has refused.
-pub fn written(t: Told, from: usize, lent: &[u8], out: &mut [u8], at: usize) -> usize {
+pub fn written(
+    rt: HostRuntime,
+    t: Told,
+    from: usize,
+    lent: &[u8],
+    out: &mut [u8],
+    at: usize,
+) -> usize {
     let start = if t.refusal == 0 { from } else { 0 };
     if !kept_but(lent, start, t.next) {
-        return print::text(out, at, b"# changed");
+        return print::text(rt, out, at, b"# changed");
     }
     if t.refusal != 0 {
-        return shown(t, lent, out, at);
+        return shown(rt, t, lent, out, at);
     }
     let octets = Span {
         start,
         len: wrapping_sub_usize(t.next, start),
     };
-    shown(octets_at(t.next, 0, 0, 0, octets), lent, out, at)
+    shown(rt, octets_at(t.next, 0, 0, 0, octets), lent, out, at)
 }

@@ -6,6 +6,8 @@
 // the free records that a reader is lent. A FIELD is octets, a RECORD a value of a field table (crates/table_cases), and *N gives the last
 // record so many times more. differential/README.md teaches it with examples. The answer is a line too: `=` and what was read or written,
 // `!` and a refusal by its number and values, `?` where the line is no case, `# changed` where lent memory did not stay as it had to.
+#![tactic(auto)]
+
 pub mod answer;
 pub mod lent;
 pub mod line;

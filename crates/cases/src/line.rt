@@ -11,14 +11,14 @@ pub const END: usize = usize::MAX - 1;
 pub const MALFORMED: usize = usize::MAX;
 
 // The place behind what was read, and a number: the one that was read, or how many octets the pool holds then.
-#[derive(Drop)]
+#[derive(Clone, Copy)]
 pub struct Read {
     pub next: usize,
     pub value: u64,
 }
 
 // A case up to its fields. Without +N the position is 0; without @N the limit is NO_LIMIT.
-#[derive(Drop)]
+#[derive(Clone, Copy)]
 pub struct Front {
     pub op: u8,
     pub at: usize,

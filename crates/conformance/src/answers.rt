@@ -21,37 +21,59 @@ fn read(op: u8, s: &[u8], at: usize) -> Told {
     }
 }
 
-fn read_onto(case: Case, s: &[u8], tape: &mut [u64], out: &mut [u8], place: usize) -> usize {
+fn read_onto(
+    rt: HostRuntime,
+    case: Case,
+    s: &[u8],
+    tape: &mut [u64],
+    out: &mut [u8],
+    place: usize,
+) -> usize {
     let words = lending::lent_words(case.limit, s.len(), tape.len());
     if words == 0 {
-        return print::put(out, place, b'?');
+        return print::put(rt, out, place, b'?');
     }
     let part = &mut tape[0..words];
     lent::fill_words(part);
     let by_words = case.limit != NO_LIMIT;
     if case.op < 0x22 {
-        return table::answer(case.op, s, case.at, part, by_words, out, place);
+        return table::answer(rt, case.op, s, case.at, part, by_words, out, place);
     }
-    payload_cases::reading::answer(case.op, s, case.at, part, by_words, out, place)
+    payload_cases::reading::answer(rt, case.op, s, case.at, part, by_words, out, place)
 }
 
-fn walk_lent(entries: usize, s: &[u8], tape: &mut [u64], out: &mut [u8], place: usize) -> usize {
+fn walk_lent(
+    rt: HostRuntime,
+    entries: usize,
+    s: &[u8],
+    tape: &mut [u64],
+    out: &mut [u8],
+    place: usize,
+) -> usize {
     let mut register = memory::register();
     let words = walking::register_words(entries, memory::REGISTER_WORDS);
     if words == 0 {
-        return print::put(out, place, b'?');
+        return print::put(rt, out, place, b'?');
     }
-    walking::answer(s, tape, &mut register[0..words], out, place)
+    walking::answer(rt, s, tape, &mut register[0..words], out, place)
 }
 
 // The limit is the number of records, all of them free; the first field, of two octets, the number of entries.
-fn walk(case: Case, n: &[u8], s: &[u8], tape: &mut [u64], out: &mut [u8], place: usize) -> usize {
+fn walk(
+    rt: HostRuntime,
+    case: Case,
+    n: &[u8],
+    s: &[u8],
+    tape: &mut [u64],
+    out: &mut [u8],
+    place: usize,
+) -> usize {
     let words = lending::words_for(case.limit, tape.len());
     if n.len() != 2 || case.at != 0 || words == 0 {
-        return print::put(out, place, b'?');
+        return print::put(rt, out, place, b'?');
     }
     let entries = line::big_endian(n) as usize;
-    walk_lent(entries, s, &mut tape[0..words], out, place)
+    walk_lent(rt, entries, s, &mut tape[0..words], out, place)
 }
 
 // Writers from fields alone.
@@ -104,6 +126,7 @@ fn written(case: Case, pool: &[u8], marks: &Marks, tape: &mut [u64], lent: &mut 
 }
 
 fn write_over(
+    rt: HostRuntime,
     lent: &mut [u8],
     case: Case,
     pool: &[u8],
@@ -114,16 +137,17 @@ fn write_over(
 ) -> usize {
     let space = space_for(case, lent.len());
     if lent.len() < space {
-        return print::put(out, place, b'?');
+        return print::put(rt, out, place, b'?');
     }
     let part = &mut lent[0..space];
     let t = written(case, pool, marks, tape, part);
     // A frame that is read at a position is written from the first octet on.
     let start = if case.op == 0x60 { 0 } else { case.at };
-    answer::written(t, start, part, out, place)
+    answer::written(rt, t, start, part, out, place)
 }
 
 fn write_case(
+    rt: HostRuntime,
     case: Case,
     pool: &[u8],
     marks: &Marks,
@@ -132,18 +156,26 @@ fn write_case(
     place: usize,
 ) -> usize {
     let mut lent = memory::octets();
-    write_over(&mut lent, case, pool, marks, tape, out, place)
+    write_over(rt, &mut lent, case, pool, marks, tape, out, place)
 }
 
-fn tell_value(case: Case, pool: &[u8], tape: &[u64], out: &mut [u8], place: usize) -> usize {
+fn tell_value(
+    rt: HostRuntime,
+    case: Case,
+    pool: &[u8],
+    tape: &[u64],
+    out: &mut [u8],
+    place: usize,
+) -> usize {
     let n = case.words;
     if tape.len() < n {
-        return print::put(out, place, b'?');
+        return print::put(rt, out, place, b'?');
     }
-    value::shown(value::told(case.op, &tape[0..n]), pool, out, place)
+    value::shown(rt, value::told(case.op, &tape[0..n]), pool, out, place)
 }
 
 fn answer_case(
+    rt: HostRuntime,
     case: Case,
     pool: &[u8],
     marks: &Marks,
@@ -153,17 +185,18 @@ fn answer_case(
 ) -> usize {
     let s = line::field(pool, marks, 0);
     match case.op / 16 {
-        0 | 1 => answer::shown(read(case.op, s, case.at), s, out, place),
-        2 => read_onto(case, s, tape, out, place),
-        3 => walk(case, s, line::field(pool, marks, 1), tape, out, place),
-        4 | 5 | 6 => write_case(case, pool, marks, tape, out, place),
-        7 => tell_value(case, pool, tape, out, place),
-        _ => print::put(out, place, b'?'),
+        0 | 1 => answer::shown(rt, read(case.op, s, case.at), s, out, place),
+        2 => read_onto(rt, case, s, tape, out, place),
+        3 => walk(rt, case, s, line::field(pool, marks, 1), tape, out, place),
+        4 | 5 | 6 => write_case(rt, case, pool, marks, tape, out, place),
+        7 => tell_value(rt, case, pool, tape, out, place),
+        _ => print::put(rt, out, place, b'?'),
     }
 }
 
 // The answer to a case, at a place of the output.
 pub(crate) fn answer(
+    rt: HostRuntime,
     text: &[u8],
     pool: &mut [u8],
     tape: &mut [u64],
@@ -174,7 +207,7 @@ pub(crate) fn answer(
     let case = case::case_of(text, pool, &mut marks, tape);
     let held = case.held;
     if pool.len() < held {
-        return print::put(out, place, b'?');
+        return print::put(rt, out, place, b'?');
     }
-    answer_case(case, &pool[0..held], &marks, tape, out, place)
+    answer_case(rt, case, &pool[0..held], &marks, tape, out, place)
 }

@@ -6,7 +6,7 @@ use cases::line::{at, find, part};
 use std::num::{wrapping_add_u64, wrapping_add_usize};
 
 // The cases that had an answer, how many of them were wrong, and the octets of the output that are not yet written.
-#[derive(Drop)]
+#[derive(Clone, Copy)]
 pub(crate) struct Count {
     pub(crate) cases: u64,
     pub(crate) wrong: u64,
@@ -23,6 +23,7 @@ fn counted(count: Count, wrong: u64, pending: usize) -> Count {
 
 // What was answered from `start` up to `end` of the output, beside what stands behind the tab of a line.
 fn judged(
+    rt: HostRuntime,
     count: Count,
     line: &[u8],
     tab: usize,
@@ -32,16 +33,17 @@ fn judged(
 ) -> Count {
     let behind = wrapping_add_usize(tab, 1);
     let told = part(line, behind, find(line, behind, b'\t'));
-    if check::same(part(out, start, end), told) {
+    if part(out, start, end) == told {
         return counted(count, 0, 0);
     }
-    let next = print::text(out, end, b" to ");
-    let with_line = print::text(out, next, line);
-    let ended = print::put(out, with_line, b'\n');
-    counted(count, 1, print::flush(out, ended))
+    let next = print::text(rt, out, end, b" to ");
+    let with_line = print::text(rt, out, next, line);
+    let ended = print::put(rt, out, with_line, b'\n');
+    counted(count, 1, print::flush(rt, out, ended))
 }
 
 pub(crate) fn try_line(
+    rt: HostRuntime,
     before: Count,
     line: &[u8],
     pool: &mut [u8],
@@ -55,12 +57,12 @@ pub(crate) fn try_line(
     let tab = find(line, 0, b'\t');
     let case = part(line, 0, tab);
     if tab == line.len() {
-        let end = answer(case, pool, tape, out, count.pending);
-        count.pending = print::put(out, end, b'\n');
+        let end = answer(rt, case, pool, tape, out, count.pending);
+        count.pending = print::put(rt, out, end, b'\n');
         return count;
     }
-    let begin = print::flush(out, count.pending);
-    let start = print::text(out, begin, b"wrong: ");
-    let end = answer(case, pool, tape, out, start);
-    judged(count, line, tab, out, start, end)
+    let begin = print::flush(rt, out, count.pending);
+    let start = print::text(rt, out, begin, b"wrong: ");
+    let end = answer(rt, case, pool, tape, out, start);
+    judged(rt, count, line, tab, out, start, end)
 }

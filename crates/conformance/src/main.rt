@@ -1,5 +1,7 @@
 // Answers cases, or tries them against the answers that stand behind them: those of the files that its arguments name, or of standard
 // input. At the end it tells how many had an answer and how many of these were wrong. The crate `cases` has the form of a case.
+#![tactic(auto)]
+
 mod answers;
 mod lines;
 mod memory;
@@ -7,12 +9,14 @@ mod memory;
 ghost use Rattle.std.specs.Prelude.{◌≤◌, length};
 
 use cases::line::{find, part};
-use libc::STDIN_FILENO;
 use lines::{Count, try_line};
+use std::env::{Env, FillError};
+use std::fs;
+use std::io::Read;
 use std::num::wrapping_add_usize;
 
 // The cases so far; the octets of the text that are not yet tried, from one place to another; whether the input has ended.
-#[derive(Drop)]
+#[derive(Clone, Copy)]
 struct Progress {
     count: Count,
     from: usize,
@@ -22,6 +26,7 @@ struct Progress {
 
 // Tries the lines that have ended.
 fn try_lines(
+    rt: HostRuntime,
     before: Progress,
     text: &[u8],
     pool: &mut [u8],
@@ -36,7 +41,7 @@ fn try_lines(
             return p;
         }
         let count = p.count;
-        p.count = try_line(count, part(text, p.from, next), pool, tape, out);
+        p.count = try_line(rt, count, part(text, p.from, next), pool, tape, out);
         p.from = wrapping_add_usize(next, 1);
         turn += 1;
     }
@@ -65,9 +70,25 @@ fn move_to_front(text: &mut [u8], from: usize, end: usize) -> usize
     n
 }
 
+// Reads until the octets are full, the input ends or a read fails: how many were read.
+fn read_full<R: Read>(input: &mut R, rest: &mut [u8]) -> usize
+    ensures { result ≤ length rest.new }
+{
+    let mut n = 0;
+    while n < rest.len() {
+        match input.read(&mut rest[n..]) {
+            Ok(0) => return n,
+            Ok(more) => n += more,
+            Err(_) => return n,
+        }
+    }
+    n
+}
+
 // Reads on, and tries the lines that have ended.
-fn read_on(
-    fd: i32,
+fn read_on<R: Read>(
+    rt: HostRuntime,
+    input: &mut R,
     p: Progress,
     text: &mut [u8],
     pool: &mut [u8],
@@ -75,7 +96,7 @@ fn read_on(
     out: &mut [u8],
 ) -> Progress {
     let held = move_to_front(text, p.from, p.end);
-    let n = io::read_full(fd, &mut text[held..]);
+    let n = read_full(input, &mut text[held..]);
     let end = held + n;
     let count = p.count;
     let now = Progress {
@@ -84,12 +105,13 @@ fn read_on(
         end,
         ended: end < text.len(),
     };
-    try_lines(now, text, pool, tape, out)
+    try_lines(rt, now, text, pool, tape, out)
 }
 
-// The lines of a descriptor, in no more than so many reads: no contract says that it ends. The last line may lack its newline.
-fn try_all(
-    fd: i32,
+// The lines of an input, in no more than so many reads: no contract says that it ends. The last line may lack its newline.
+fn try_all<R: Read>(
+    rt: HostRuntime,
+    input: &mut R,
     count: Count,
     text: &mut [u8],
     pool: &mut [u8],
@@ -104,25 +126,23 @@ fn try_all(
     };
     let mut left = u64::MAX;
     while 0 < left && !p.ended {
-        p = read_on(fd, p, text, pool, tape, out);
+        p = read_on(rt, input, p, text, pool, tape, out);
         left -= 1;
     }
     let before = p.count;
-    try_line(before, part(text, p.from, p.end), pool, tape, out)
+    try_line(rt, before, part(text, p.from, p.end), pool, tape, out)
 }
 
-// The descriptor of the file that argument i names; standard input where there is no argument.
-fn descriptor(i: usize) -> i32 {
-    let mut path = [0u8; 4096];
-    let n = os::arg(i, &mut path);
-    if n == 0 {
-        return STDIN_FILENO;
+fn end(rt: HostRuntime, count: Count, out: &mut [u8]) {
+    if count.cases == 0 {
+        print::flush(rt, out, count.pending);
+        return;
     }
-    let fd = os::open_read(&path[0..n]);
-    if fd < 0 {
-        os::fail(&path[0..n]);
-    }
-    fd
+    let cases = print::decimal(rt, out, count.pending, count.cases);
+    let text = print::text(rt, out, cases, b" cases, ");
+    let wrong = print::decimal(rt, out, text, count.wrong);
+    let last = print::text(rt, out, wrong, b" wrong\n");
+    print::flush(rt, out, last);
 }
 
 // The number of the last argument that names a file, the first being the program's own name; 1, where none does.
@@ -130,38 +150,86 @@ fn last_file(arguments: usize) -> usize {
     if arguments < 2 { 1 } else { arguments - 1 }
 }
 
-fn end(count: Count, out: &mut [u8]) {
-    if count.cases == 0 {
-        print::flush(out, count.pending);
-        return;
+// Whether there is an argument i, of any length.
+fn is_argument(rt: HostRuntime, i: usize) -> bool {
+    let mut first = [0u8; 1];
+    match rt.arg(i, &mut first) {
+        Err(FillError::NotPresent) => false,
+        _ => true,
     }
-    let cases = print::decimal(out, count.pending, count.cases);
-    let text = print::text(out, cases, b" cases, ");
-    let wrong = print::decimal(out, text, count.wrong);
-    let last = print::text(out, wrong, b" wrong\n");
-    print::flush(out, last);
+}
+
+fn argument_count(rt: HostRuntime) -> usize {
+    let mut n = 0;
+    while n < usize::MAX && is_argument(rt, n) {
+        n += 1;
+    }
+    n
+}
+
+// The lines of the file of this name. One that cannot be opened has none.
+fn try_file(
+    rt: HostRuntime,
+    path: &str,
+    count: Count,
+    text: &mut [u8],
+    pool: &mut [u8],
+    tape: &mut [u64],
+    out: &mut [u8],
+) -> Count {
+    match fs::open(&rt, path) {
+        Ok(mut file) => try_all(rt, &mut file, count, text, pool, tape, out),
+        Err(e) => {
+            let _ = eprintln!(rt; "{path}: {e}");
+            count
+        }
+    }
+}
+
+// The lines of the file that argument i names; those of standard input where there is no argument.
+fn try_argument(
+    rt: HostRuntime,
+    i: usize,
+    count: Count,
+    text: &mut [u8],
+    pool: &mut [u8],
+    tape: &mut [u64],
+    out: &mut [u8],
+) -> Count {
+    let mut path = [0u8; 4096];
+    let n = rt.arg(i, &mut path).unwrap_or(0);
+    if n == 0 {
+        return try_all(rt, &mut rt.stdin(), count, text, pool, tape, out);
+    }
+    match str::from_utf8(&path[0..n]) {
+        Ok(name) => try_file(rt, name, count, text, pool, tape, out),
+        Err(_) => {
+            let _ = eprintln!(rt; "the name of a file is no UTF-8");
+            count
+        }
+    }
 }
 
 // The files one by one; standard input where none is named.
-fn try_files(text: &mut [u8], pool: &mut [u8], tape: &mut [u64], out: &mut [u8]) {
+fn try_files(rt: HostRuntime, text: &mut [u8], pool: &mut [u8], tape: &mut [u64], out: &mut [u8]) {
     let mut count = Count {
         cases: 0,
         wrong: 0,
         pending: 0,
     };
-    let files = last_file(os::arg_count());
+    let files = last_file(argument_count(rt));
     let mut i = 0;
     while i < files {
         i += 1;
-        count = try_all(descriptor(i), count, text, pool, tape, out);
+        count = try_argument(rt, i, count, text, pool, tape, out);
     }
-    end(count, out);
+    end(rt, count, out);
 }
 
-fn main() {
+fn main(rt: HostRuntime) {
     let mut text = memory::octets();
     let mut pool = memory::octets();
     let mut tape = memory::tape();
     let mut out = memory::octets();
-    try_files(&mut text, &mut pool, &mut tape, &mut out);
+    try_files(rt, &mut text, &mut pool, &mut tape, &mut out);
 }

@@ -1,6 +1,8 @@
 // Shows a recording of AMQP 0-9-1 to people: octets of one direction come in on standard input, and a line for each frame goes out on
 // standard output, then one that tells how many there were. A protocol header may stand first. The input may be of any length; a frame
 // that does not fit BUFFER ends it, and so does what is no frame.
+#![tactic(auto)]
+
 ghost use Rattle.std.specs.Prelude.{◌≡◌, ◌≤◌, length};
 
 use dissector::ending;
@@ -8,13 +10,13 @@ use dissector::frame_line::{Dissected, frames};
 use dissector::method_name::commands;
 use frame::PROTOCOL_HEADER;
 use frame_reader::Stop;
-use libc::{STDERR_FILENO, STDIN_FILENO};
+use std::io::Read;
 use std::num::{wrapping_add_u64, wrapping_sub_u64};
 use types::WireError;
 
 // The octets that are held, of which the first stands at `base` of the input; how many of those before it a protocol header was; the
 // frames so far; the octets of the output that are not yet written; whether nothing more is read, and whether that is for a refusal.
-#[derive(Drop)]
+#[derive(Clone, Copy)]
 struct Progress {
     held: usize,
     base: u64,
@@ -40,18 +42,18 @@ fn with_held(p: Progress, held: usize, ended: bool) -> Progress
 }
 
 // Reads once, behind the octets that are held.
-fn read_more(buffer: &mut [u8], p: Progress) -> Progress
+fn read_more(rt: HostRuntime, buffer: &mut [u8], p: Progress) -> Progress
     requires { p.held ≤ length buffer.old }
     ensures { result.held ≤ length buffer.old }
 {
     let held = p.held;
-    let rest = &mut buffer[held..];
-    let got = libc::read(STDIN_FILENO, rest);
-    if got < 0 {
-        io::write_all(STDERR_FILENO, b"dissect: input failed\n");
+    match rt.stdin().read(&mut buffer[held..]) {
+        Ok(n) => with_held(p, held + n, n == 0),
+        Err(_) => {
+            let _ = eprintln!(rt; "dissect: input failed");
+            with_held(p, held, true)
+        }
     }
-    let n = io::count(got, rest);
-    with_held(p, held + n, n == 0)
 }
 
 // How many octets the protocol header is that some octets begin with.
@@ -86,7 +88,7 @@ fn move_to_front(buffer: &mut [u8], from: usize, end: usize)
 }
 
 // Passes over a protocol header at the beginning of the input.
-fn skip_header(buffer: &mut [u8], p: Progress, out: &mut [u8]) -> Progress
+fn skip_header(rt: HostRuntime, buffer: &mut [u8], p: Progress, out: &mut [u8]) -> Progress
     requires { p.held ≤ length buffer.old }
     ensures { result.held ≤ length buffer.old }
 {
@@ -101,14 +103,20 @@ fn skip_header(buffer: &mut [u8], p: Progress, out: &mut [u8]) -> Progress
         base: len as u64,
         header: len as u64,
         frames: 0,
-        pending: ending::protocol_header(out, p.pending),
+        pending: ending::protocol_header(rt, out, p.pending),
         ended: p.ended,
         stopped: false,
     }
 }
 
 // What has stopped the frames: one that is not whole is read on, if it fits the buffer.
-fn after_refusal(p: Progress, e: WireError, buffer: usize, out: &mut [u8]) -> Progress
+fn after_refusal(
+    rt: HostRuntime,
+    p: Progress,
+    e: WireError,
+    buffer: usize,
+    out: &mut [u8],
+) -> Progress
     ensures { result.held ≡ p.held }
 {
     match e {
@@ -116,9 +124,9 @@ fn after_refusal(p: Progress, e: WireError, buffer: usize, out: &mut [u8]) -> Pr
             if p.held < buffer {
                 return p;
             }
-            stopped(p, ending::too_large(out, p.pending, p.base, buffer))
+            stopped(p, ending::too_large(rt, out, p.pending, p.base, buffer))
         }
-        _ => stopped(p, ending::refused(out, p.pending, p.base, e)),
+        _ => stopped(p, ending::refused(rt, out, p.pending, p.base, e)),
     }
 }
 
@@ -153,36 +161,50 @@ fn past(p: Progress, d: Dissected) -> Progress
 }
 
 // Shows the frames that are held, and keeps what is behind them.
-fn take(buffer: &mut [u8], p: Progress, names: &[u8], tape: &mut [u64], out: &mut [u8]) -> Progress
+fn take(
+    rt: HostRuntime,
+    buffer: &mut [u8],
+    p: Progress,
+    names: &[u8],
+    tape: &mut [u64],
+    out: &mut [u8],
+) -> Progress
     requires { p.held ≤ length buffer.old }
     ensures { result.held ≤ length buffer.old }
 {
     let held = p.held;
-    let d = frames(out, p.pending, names, p.base, &buffer[0..held], tape);
+    let d = frames(rt, out, p.pending, names, p.base, &buffer[0..held], tape);
     move_to_front(buffer, d.consumed, held);
     let next = past(p, d);
     let refusal = d.refusal;
     match refusal {
         Stop::None => next,
-        Stop::Refused(e) => after_refusal(next, e, buffer.len(), out),
+        Stop::Refused(e) => after_refusal(rt, next, e, buffer.len(), out),
     }
 }
 
 // Reads once, and shows what has come whole. No frame has less than eight octets, and the protocol header has as many.
-fn turn(buffer: &mut [u8], p: Progress, names: &[u8], tape: &mut [u64], out: &mut [u8]) -> Progress
+fn turn(
+    rt: HostRuntime,
+    buffer: &mut [u8],
+    p: Progress,
+    names: &[u8],
+    tape: &mut [u64],
+    out: &mut [u8],
+) -> Progress
     requires { p.held ≤ length buffer.old }
     ensures { result.held ≤ length buffer.old }
 {
-    let more = read_more(buffer, p);
+    let more = read_more(rt, buffer, p);
     if more.held < 8 && !more.ended {
         return more;
     }
-    let first = skip_header(buffer, more, out);
-    take(buffer, first, names, tape, out)
+    let first = skip_header(rt, buffer, more, out);
+    take(rt, buffer, first, names, tape, out)
 }
 
 // Reads to the end of the input, in no more than `turns` reads: no contract says that the input ends.
-fn dissect(buffer: &mut [u8], names: &[u8], tape: &mut [u64], out: &mut [u8]) {
+fn dissect(rt: HostRuntime, buffer: &mut [u8], names: &[u8], tape: &mut [u64], out: &mut [u8]) {
     let mut p = Progress {
         held: 0,
         base: 0,
@@ -194,12 +216,14 @@ fn dissect(buffer: &mut [u8], names: &[u8], tape: &mut [u64], out: &mut [u8]) {
     };
     let mut turns = u64::MAX;
     while turns > 0 && !p.ended {
-        p = turn(buffer, p, names, tape, out);
+        p = turn(rt, buffer, p, names, tape, out);
         turns -= 1;
     }
     let octets = wrapping_sub_u64(p.base, p.header);
-    let end = ending::summary(out, p.pending, p.frames, octets, p.base, p.held, p.stopped);
-    print::flush(out, end);
+    let end = ending::summary(
+        rt, out, p.pending, p.frames, octets, p.base, p.held, p.stopped,
+    );
+    print::flush(rt, out, end);
 }
 
 // The contract gives only the length, which lending the array as a slice needs.
@@ -215,10 +239,16 @@ fn empty_tape() -> [u64; 393_216]
     [0; 393_216]
 }
 
-fn main() {
+fn empty_output() -> [u8; 65_536]
+    ensures { 65536 ≡ length result }
+{
+    [0; 65_536]
+}
+
+fn main(rt: HostRuntime) {
     let mut buffer = empty_buffer();
     let mut tape = empty_tape();
-    let mut out = io::large_buffer();
+    let mut out = empty_output();
     let names = commands();
-    dissect(&mut buffer, &names, &mut tape, &mut out);
+    dissect(rt, &mut buffer, &names, &mut tape, &mut out);
 }

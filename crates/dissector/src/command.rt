@@ -10,7 +10,7 @@ use text::{number, string};
 use types::Span;
 
 // The place in the output, and where the name of the next argument begins.
-#[derive(Drop)]
+#[derive(Clone, Copy)]
 pub(crate) struct Shown {
     pub at: usize,
     pub label: usize,
@@ -36,17 +36,25 @@ fn second(words: &[u64], j: usize, field: u8) -> Span {
 }
 
 // A number, a bit or a string; the first two are one word, the start.
-pub(crate) fn value(out: &mut [u8], at: usize, s: &[u8], field: u8, v: Span) -> usize
+pub(crate) fn value(
+    rt: HostRuntime,
+    out: &mut [u8],
+    at: usize,
+    s: &[u8],
+    field: u8,
+    v: Span,
+) -> usize
     ensures { result ≤ length out.old }
 {
     match field / 16 {
-        0x0 => print::decimal(out, at, v.start as u64),
-        0xB => number::flag(out, at, v.start % 2 == 1),
-        _ => string::span(out, at, s, v, true),
+        0x0 => print::decimal(rt, out, at, v.start as u64),
+        0xB => number::flag(rt, out, at, v.start % 2 == 1),
+        _ => string::span(rt, out, at, s, v, true),
     }
 }
 
 pub(crate) fn argument(
+    rt: HostRuntime,
     out: &mut [u8],
     here: Shown,
     names: &[u8],
@@ -56,14 +64,15 @@ pub(crate) fn argument(
 ) -> Shown
     ensures { result.at ≤ length out.old }
 {
-    let next = label(out, here.at, names, here.label);
+    let next = label(rt, out, here.at, names, here.label);
     Shown {
-        at: value(out, next, s, field, v),
+        at: value(rt, out, next, s, field, v),
         label: next_word(names, here.label),
     }
 }
 
 fn arguments_of_field(
+    rt: HostRuntime,
     out: &mut [u8],
     here: Shown,
     names: &[u8],
@@ -79,14 +88,15 @@ fn arguments_of_field(
     if count == 0 {
         return here;
     }
-    let first = argument(out, here, names, s, field, pair_at(words, j));
+    let first = argument(rt, out, here, names, s, field, pair_at(words, j));
     if count == 1 {
         return first;
     }
-    argument(out, first, names, s, field, second(words, j, field))
+    argument(rt, out, first, names, s, field, second(words, j, field))
 }
 
 fn arguments(
+    rt: HostRuntime,
     out: &mut [u8],
     begin: Shown,
     names: &[u8],
@@ -103,7 +113,7 @@ fn arguments(
     let mut i = 0;
     while i < fields.len() && i < layout.count {
         let field = fields[i];
-        here = arguments_of_field(out, here, names, s, field, words, j);
+        here = arguments_of_field(rt, out, here, names, s, field, words, j);
         j = wrapping_add_usize(j, width_of(field));
         i += 1;
     }
@@ -111,14 +121,21 @@ fn arguments(
 }
 
 // A payload's words: class and method are the second and third, and the arguments stand behind them.
-pub(crate) fn command(out: &mut [u8], at: usize, names: &[u8], s: &[u8], words: &[u64]) -> usize
+pub(crate) fn command(
+    rt: HostRuntime,
+    out: &mut [u8],
+    at: usize,
+    names: &[u8],
+    s: &[u8],
+    words: &[u64],
+) -> usize
     ensures { result ≤ length out.old }
 {
     let class = (word_at(words, 1) % 0x1_0000) as u16;
     let method = (word_at(words, 2) % 0x1_0000) as u16;
     let begin = Shown {
-        at: method_name(out, at, names, class, method),
+        at: method_name(rt, out, at, names, class, method),
         label: next_word(names, words_of(class, method)),
     };
-    arguments(out, begin, names, s, layout_of(class, method), words)
+    arguments(rt, out, begin, names, s, layout_of(class, method), words)
 }

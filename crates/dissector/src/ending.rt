@@ -5,60 +5,62 @@ use crate::refusal;
 use crate::row::labeled;
 use types::WireError;
 
-pub fn protocol_header(out: &mut [u8], at: usize) -> usize
+pub fn protocol_header(rt: HostRuntime, out: &mut [u8], at: usize) -> usize
     ensures { result ≤ length out.old }
 {
-    print::text(out, at, b"0 protocol header AMQP 0-9-1\n")
+    print::text(rt, out, at, b"0 protocol header AMQP 0-9-1\n")
 }
 
 // What stands at `base` is no frame.
-pub fn refused(out: &mut [u8], at: usize, base: u64, e: WireError) -> usize
+pub fn refused(rt: HostRuntime, out: &mut [u8], at: usize, base: u64, e: WireError) -> usize
     ensures { result ≤ length out.old }
 {
-    let place = print::decimal(out, at, base);
-    let end = refusal::refused(out, place, e, base);
-    print::put(out, end, b'\n')
+    let place = print::decimal(rt, out, at, base);
+    let end = refusal::refused(rt, out, place, e, base);
+    print::put(rt, out, end, b'\n')
 }
 
 // The frame at `base` is larger than the buffer.
-pub fn too_large(out: &mut [u8], at: usize, base: u64, buffer: usize) -> usize
+pub fn too_large(rt: HostRuntime, out: &mut [u8], at: usize, base: u64, buffer: usize) -> usize
     ensures { result ≤ length out.old }
 {
-    let place = print::decimal(out, at, base);
+    let place = print::decimal(rt, out, at, base);
     let end = labeled(
+        rt,
         out,
         place,
         b" a frame is larger than the buffer of ",
         buffer as u64,
     );
-    print::text(out, end, b" octets\n")
+    print::text(rt, out, end, b" octets\n")
 }
 
-fn left(out: &mut [u8], at: usize, base: u64, held: usize) -> usize
+fn left(rt: HostRuntime, out: &mut [u8], at: usize, base: u64, held: usize) -> usize
     ensures { result ≤ length out.old }
 {
-    let place = labeled(out, at, b", Truncated at ", base);
-    let count = labeled(out, place, b": ", held as u64);
-    print::text(out, count, b" octets of a frame\n")
+    let place = labeled(rt, out, at, b", Truncated at ", base);
+    let count = labeled(rt, out, place, b": ", held as u64);
+    print::text(rt, out, count, b" octets of a frame\n")
 }
 
-fn stopped_at(out: &mut [u8], at: usize, base: u64) -> usize
+fn stopped_at(rt: HostRuntime, out: &mut [u8], at: usize, base: u64) -> usize
     ensures { result ≤ length out.old }
 {
-    let place = labeled(out, at, b", stopped at ", base);
-    print::put(out, place, b'\n')
+    let place = labeled(rt, out, at, b", stopped at ", base);
+    print::put(rt, out, place, b'\n')
 }
 
-fn counts(out: &mut [u8], at: usize, frames: u64, octets: u64) -> usize
+fn counts(rt: HostRuntime, out: &mut [u8], at: usize, frames: u64, octets: u64) -> usize
     ensures { result ≤ length out.old }
 {
-    let count = labeled(out, at, b"end: ", frames);
-    let end = labeled(out, count, b" frames, ", octets);
-    print::text(out, end, b" octets")
+    let count = labeled(rt, out, at, b"end: ", frames);
+    let end = labeled(rt, out, count, b" frames, ", octets);
+    print::text(rt, out, end, b" octets")
 }
 
 // The last line: the frames and their octets, and what is left at `base`.
 pub fn summary(
+    rt: HostRuntime,
     out: &mut [u8],
     at: usize,
     frames: u64,
@@ -69,12 +71,12 @@ pub fn summary(
 ) -> usize
     ensures { result ≤ length out.old }
 {
-    let end = counts(out, at, frames, octets);
+    let end = counts(rt, out, at, frames, octets);
     if stopped {
-        return stopped_at(out, end, base);
+        return stopped_at(rt, out, end, base);
     }
     if held == 0 {
-        return print::put(out, end, b'\n');
+        return print::put(rt, out, end, b'\n');
     }
-    left(out, end, base, held)
+    left(rt, out, end, base, held)
 }

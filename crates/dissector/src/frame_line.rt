@@ -16,7 +16,7 @@ use std::num::{wrapping_add_u64, wrapping_add_usize};
 use types::{Cursor, ReadU16, Span};
 
 // How many frames were shown, their octets, what stands behind them, and the place in the output.
-#[derive(Drop)]
+#[derive(Clone, Copy)]
 pub struct Dissected {
     pub frames: usize,
     pub consumed: usize,
@@ -25,7 +25,7 @@ pub struct Dissected {
 }
 
 // The words of a payload, or why it was refused.
-#[derive(Drop)]
+#[derive(Clone, Copy)]
 struct Words {
     words: [u64; 26],
     refusal: Stop,
@@ -45,14 +45,22 @@ fn read(s: &[u8], first: usize, tape: &mut [u64]) -> Words {
     }
 }
 
-fn payload(out: &mut [u8], at: usize, names: &[u8], s: &[u8], tape: &[u64], words: &[u64]) -> usize
+fn payload(
+    rt: HostRuntime,
+    out: &mut [u8],
+    at: usize,
+    names: &[u8],
+    s: &[u8],
+    tape: &[u64],
+    words: &[u64],
+) -> usize
     requires { at ≤ length out.old }
     ensures { result ≤ length out.old }
 {
     match word_at(words, 0) {
-        1 => command(out, at, names, s, words),
-        2 => header(out, at, s, tape, words),
-        3 => labeled(out, at, b" size=", word_at(words, 2)),
+        1 => command(rt, out, at, names, s, words),
+        2 => header(rt, out, at, s, tape, words),
+        3 => labeled(rt, out, at, b" size=", word_at(words, 2)),
         _ => at,
     }
 }
@@ -77,34 +85,35 @@ fn numbers_in(f: Frame) -> usize {
 }
 
 // Class and method of a command that was refused; of a reply also what its reader takes.
-fn method_of(out: &mut [u8], at: usize, names: &[u8], s: &[u8], v: Span) -> usize
+fn method_of(rt: HostRuntime, out: &mut [u8], at: usize, names: &[u8], s: &[u8], v: Span) -> usize
     ensures { result ≤ length out.old }
 {
     let start = v.start;
     let end = wrapping_add_usize(start, v.len);
     let class = u16_at(s, start);
     let method = u16_at(s, wrapping_add_usize(start, 2));
-    let next = method_name(out, at, names, class, method);
+    let next = method_name(rt, out, at, names, class, method);
     if s.len() < end {
         return next;
     }
-    reply(out, next, names, &s[0..end], start, class, method)
+    reply(rt, out, next, names, &s[0..end], start, class, method)
 }
 
-fn class_of(out: &mut [u8], at: usize, names: &[u8], s: &[u8], f: Frame) -> usize
+fn class_of(rt: HostRuntime, out: &mut [u8], at: usize, names: &[u8], s: &[u8], f: Frame) -> usize
     requires { at ≤ length out.old }
     ensures { result ≤ length out.old }
 {
     let span = f.payload;
     match numbers_in(f) {
         0 => at,
-        1 => labeled(out, at, b" class=", u16_at(s, span.start) as u64),
-        _ => method_of(out, at, names, s, span),
+        1 => labeled(rt, out, at, b" class=", u16_at(s, span.start) as u64),
+        _ => method_of(rt, out, at, names, s, span),
     }
 }
 
 // The payload of a frame that was decoded at `first`, or its refusal.
 fn payload_at(
+    rt: HostRuntime,
     out: &mut [u8],
     at: usize,
     names: &[u8],
@@ -121,10 +130,10 @@ fn payload_at(
     let words = read.words;
     let refusal = read.refusal;
     match refusal {
-        Stop::None => payload(out, at, names, s, tape, &words),
+        Stop::None => payload(rt, out, at, names, s, tape, &words),
         Stop::Refused(e) => {
-            let class = class_of(out, at, names, s, f);
-            refused(out, class, e, base)
+            let class = class_of(rt, out, at, names, s, f);
+            refused(rt, out, class, e, base)
         }
     }
 }
@@ -143,17 +152,18 @@ fn kind_of(f: Frame) -> usize {
 const KINDS: [u8; 28] = *b"method header body heartbeat";
 
 // The place of a frame, its channel and its type.
-fn beginning(out: &mut [u8], at: usize, place: u64, f: Frame) -> usize
+fn beginning(rt: HostRuntime, out: &mut [u8], at: usize, place: u64, f: Frame) -> usize
     ensures { result ≤ length out.old }
 {
-    let start = print::decimal(out, at, place);
-    let channel = labeled(out, start, b" channel=", f.channel as u64);
-    let next = print::put(out, channel, b' ');
-    word(out, next, &KINDS, kind_of(f))
+    let start = print::decimal(rt, out, at, place);
+    let channel = labeled(rt, out, start, b" channel=", f.channel as u64);
+    let next = print::put(rt, out, channel, b' ');
+    word(rt, out, next, &KINDS, kind_of(f))
 }
 
 // The line of a frame that was decoded at `first`; the first octet of `s` stands at `base` of the input.
 fn line(
+    rt: HostRuntime,
     out: &mut [u8],
     at: usize,
     names: &[u8],
@@ -165,13 +175,14 @@ fn line(
 ) -> usize
     ensures { result ≤ length out.old }
 {
-    let next = beginning(out, at, wrapping_add_u64(base, first as u64), f);
-    let end = payload_at(out, next, names, base, s, first, f, tape);
-    print::put(out, end, b'\n')
+    let next = beginning(rt, out, at, wrapping_add_u64(base, first as u64), f);
+    let end = payload_at(rt, out, next, names, base, s, first, f, tape);
+    print::put(rt, out, end, b'\n')
 }
 
 // The frames of some octets, up to the first that is none or not whole; `names` are those of commands. A payload that is refused does not stop them.
 pub fn frames(
+    rt: HostRuntime,
     out: &mut [u8],
     at: usize,
     names: &[u8],
@@ -195,7 +206,7 @@ pub fn frames(
                 };
             }
             Decoded::Value(f, behind) => {
-                next = line(out, next, names, base, s, first, f, tape);
+                next = line(rt, out, next, names, base, s, first, f, tape);
                 first = behind.at;
                 count += 1;
             }

@@ -17,13 +17,21 @@ const NAMES: [u8; 136] = *b"\
 const ABSENT: u8 = 0xA0;
 
 // A property's value: a table is its number of records, and the one number of eight octets is a timestamp.
-fn value(out: &mut [u8], at: usize, s: &[u8], tape: &[u64], field: u8, v: Span) -> usize
+fn value(
+    rt: HostRuntime,
+    out: &mut [u8],
+    at: usize,
+    s: &[u8],
+    tape: &[u64],
+    field: u8,
+    v: Span,
+) -> usize
     ensures { result ≤ length out.old }
 {
     match field {
-        0xF0 => table::table(out, at, s, tape, v.start),
-        0x08 => number::timestamp(out, at, v.start as u64),
-        _ => command::value(out, at, s, field, v),
+        0xF0 => table::table(rt, out, at, s, tape, v.start),
+        0x08 => number::timestamp(rt, out, at, v.start as u64),
+        _ => command::value(rt, out, at, s, field, v),
     }
 }
 
@@ -39,6 +47,7 @@ fn present(flags: u64, fields: &[u8; 13], i: usize) -> u8
 }
 
 fn property(
+    rt: HostRuntime,
     out: &mut [u8],
     at: usize,
     name: usize,
@@ -53,11 +62,19 @@ fn property(
     if field == ABSENT {
         return at;
     }
-    let next = label(out, at, &NAMES, name);
-    value(out, next, s, tape, field, v)
+    let next = label(rt, out, at, &NAMES, name);
+    value(rt, out, next, s, tape, field, v)
 }
 
-fn properties(out: &mut [u8], at: usize, s: &[u8], tape: &[u64], flags: u64, words: &[u64]) -> usize
+fn properties(
+    rt: HostRuntime,
+    out: &mut [u8],
+    at: usize,
+    s: &[u8],
+    tape: &[u64],
+    flags: u64,
+    words: &[u64],
+) -> usize
     requires { at ≤ length out.old }
     ensures { result ≤ length out.old }
 {
@@ -69,7 +86,7 @@ fn properties(out: &mut [u8], at: usize, s: &[u8], tape: &[u64], flags: u64, wor
     let mut i = 0;
     while i < 13 {
         let field = present(flags, &fields, i);
-        next = property(out, next, name, s, tape, field, pair_at(words, j));
+        next = property(rt, out, next, name, s, tape, field, pair_at(words, j));
         name = next_word(&names, name);
         j = wrapping_add_usize(j, width_of(field));
         i += 1;
@@ -78,10 +95,17 @@ fn properties(out: &mut [u8], at: usize, s: &[u8], tape: &[u64], flags: u64, wor
 }
 
 // A payload's words: class, body size and flags are the second to the fourth, and the properties stand behind them.
-pub(crate) fn header(out: &mut [u8], at: usize, s: &[u8], tape: &[u64], words: &[u64]) -> usize
+pub(crate) fn header(
+    rt: HostRuntime,
+    out: &mut [u8],
+    at: usize,
+    s: &[u8],
+    tape: &[u64],
+    words: &[u64],
+) -> usize
     ensures { result ≤ length out.old }
 {
-    let class = labeled(out, at, b" class=", word_at(words, 1));
-    let size = labeled(out, class, b" size=", word_at(words, 2));
-    properties(out, size, s, tape, word_at(words, 3), words)
+    let class = labeled(rt, out, at, b" class=", word_at(words, 1));
+    let size = labeled(rt, out, class, b" size=", word_at(words, 2));
+    properties(rt, out, size, s, tape, word_at(words, 3), words)
 }

@@ -165,15 +165,22 @@ pub fn words_of(class: u16, method: u16) -> usize
 }
 
 // Number and name of a command, behind a space; of one that has no name the number.
-pub fn method_name(out: &mut [u8], at: usize, names: &[u8], class: u16, method: u16) -> usize
+pub fn method_name(
+    rt: HostRuntime,
+    out: &mut [u8],
+    at: usize,
+    names: &[u8],
+    class: u16,
+    method: u16,
+) -> usize
     ensures { result ≤ length out.old }
 {
-    let point = labeled(out, at, b" ", class as u64);
-    let number = labeled(out, point, b".", method as u64);
+    let point = labeled(rt, out, at, b" ", class as u64);
+    let number = labeled(rt, out, point, b".", method as u64);
     let from = words_of(class, method);
     if from < names.len() {
-        let next = print::put(out, number, b' ');
-        return word(out, next, names, from);
+        let next = print::put(rt, out, number, b' ');
+        return word(rt, out, next, names, from);
     }
     number
 }

@@ -22,10 +22,10 @@ const NAMES: [u8; 288] = *b"\
     NoSpace                 \
 ";
 
-fn name(out: &mut [u8], at: usize, number: u8) -> usize
+fn name(rt: HostRuntime, out: &mut [u8], at: usize, number: u8) -> usize
     ensures { result ≤ length out.old }
 {
-    word(out, at, &NAMES, number as usize * WIDTH)
+    word(rt, out, at, &NAMES, number as usize * WIDTH)
 }
 
 // A place in the octets at hand, of which the first one stands at `base`.
@@ -38,36 +38,36 @@ fn placed(e: WireError, base: u64) -> WireError {
     }
 }
 
-fn second(out: &mut [u8], at: usize, r: Numbered) -> usize
+fn second(rt: HostRuntime, out: &mut [u8], at: usize, r: Numbered) -> usize
     requires { at ≤ length out.old }
     ensures { result ≤ length out.old }
 {
     if r.count == 1 {
         return at;
     }
-    labeled(out, at, b", ", r.second)
+    labeled(rt, out, at, b", ", r.second)
 }
 
 // The values of a refusal, of which it has up to two.
-fn values(out: &mut [u8], at: usize, r: Numbered) -> usize
+fn values(rt: HostRuntime, out: &mut [u8], at: usize, r: Numbered) -> usize
     requires { at ≤ length out.old }
     ensures { result ≤ length out.old }
 {
     if r.count == 0 {
         return at;
     }
-    let first = labeled(out, at, b"(", r.first);
-    let end = second(out, first, r);
-    print::put(out, end, b')')
+    let first = labeled(rt, out, at, b"(", r.first);
+    let end = second(rt, out, first, r);
+    print::put(rt, out, end, b')')
 }
 
 // Stands behind something else, as after a space.
-pub fn refused(out: &mut [u8], at: usize, e: WireError, base: u64) -> usize
+pub fn refused(rt: HostRuntime, out: &mut [u8], at: usize, e: WireError, base: u64) -> usize
     ensures { result ≤ length out.old }
 {
     let r = placed(e, base).numbered();
-    let number = labeled(out, at, b" refused ", r.number as u64);
-    let space = print::put(out, number, b' ');
-    let end = name(out, space, r.number);
-    values(out, end, r)
+    let number = labeled(rt, out, at, b" refused ", r.number as u64);
+    let space = print::put(rt, out, number, b' ');
+    let end = name(rt, out, space, r.number);
+    values(rt, out, end, r)
 }

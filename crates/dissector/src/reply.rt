@@ -11,7 +11,7 @@ use types::{Cursor, ReadSpan, ReadU32, ReadU64};
 
 // Numbers, a word each, or one string, its start and length; the field is the one that a layout has for them. None are left of a reply
 // that is refused.
-#[derive(Drop)]
+#[derive(Clone, Copy)]
 struct Values {
     field: u8,
     count: usize,
@@ -75,6 +75,7 @@ fn values_in(s: &[u8], at: Cursor, class: u16, method: u16) -> Values {
 
 // The octets end with the payload, which begins at `start`.
 pub(crate) fn reply(
+    rt: HostRuntime,
     out: &mut [u8],
     at: usize,
     names: &[u8],
@@ -94,7 +95,7 @@ pub(crate) fn reply(
     };
     let mut k = 0;
     while k < 3 && k < values.count {
-        here = argument(out, here, names, s, values.field, pair_at(&words, k));
+        here = argument(rt, out, here, names, s, values.field, pair_at(&words, k));
         k += 1;
     }
     here.at

@@ -24,29 +24,29 @@ pub(crate) fn next_word(names: &[u8], from: usize) -> usize
     if end < names.len() { end + 1 } else { end }
 }
 
-pub(crate) fn word(out: &mut [u8], at: usize, names: &[u8], from: usize) -> usize
+pub(crate) fn word(rt: HostRuntime, out: &mut [u8], at: usize, names: &[u8], from: usize) -> usize
     ensures { result ≤ length out.old }
 {
     if names.len() <= from {
-        return print::put(out, at, b'?');
+        return print::put(rt, out, at, b'?');
     }
     let end = word_end(names, from);
-    print::text(out, at, &names[from..end])
+    print::text(rt, out, at, &names[from..end])
 }
 
 // A number behind its label.
-pub(crate) fn labeled(out: &mut [u8], at: usize, label: &[u8], n: u64) -> usize
+pub(crate) fn labeled(rt: HostRuntime, out: &mut [u8], at: usize, label: &[u8], n: u64) -> usize
     ensures { result ≤ length out.old }
 {
-    let next = print::text(out, at, label);
-    print::decimal(out, next, n)
+    let next = print::text(rt, out, at, label);
+    print::decimal(rt, out, next, n)
 }
 
 // A word as a label: a space before it, and an equals sign behind it.
-pub(crate) fn label(out: &mut [u8], at: usize, names: &[u8], from: usize) -> usize
+pub(crate) fn label(rt: HostRuntime, out: &mut [u8], at: usize, names: &[u8], from: usize) -> usize
     ensures { result ≤ length out.old }
 {
-    let next = print::put(out, at, b' ');
-    let end = word(out, next, names, from);
-    print::put(out, end, b'=')
+    let next = print::put(rt, out, at, b' ');
+    let end = word(rt, out, next, names, from);
+    print::put(rt, out, end, b'=')
 }

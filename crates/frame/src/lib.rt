@@ -14,7 +14,7 @@ pub const PROTOCOL_HEADER: [u8; 8] = [65, 77, 81, 80, 0, 0, 9, 1];
 
 pub const FRAME_END: u8 = 0xCE;
 
-#[derive(Drop)]
+#[derive(Clone, Copy)]
 pub enum FrameType {
     Method,
     Header,
@@ -54,7 +54,7 @@ impl FrameType {
 }
 
 // A frame in lent octets: its payload is a span of them.
-#[derive(Drop)]
+#[derive(Clone, Copy)]
 pub struct Frame {
     pub frame_type: FrameType,
     pub channel: u16,

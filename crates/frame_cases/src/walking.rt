@@ -64,63 +64,71 @@ fn kept(tape: &[u64], records: usize, register: &[u64], frames: usize) -> bool {
 }
 
 // The words of entry k, joined by `:`, behind a space.
-fn entry(register: &[u64], k: usize, out: &mut [u8], at: usize) -> usize {
+fn entry(rt: HostRuntime, register: &[u64], k: usize, out: &mut [u8], at: usize) -> usize {
     if register.len() / ENTRY_WORDS <= k {
-        return print::text(out, at, b" ?");
+        return print::text(rt, out, at, b" ?");
     }
     let i = k * ENTRY_WORDS;
-    let first = and_number(out, at, b' ', register[i]);
-    let before = and_number(out, first, b':', register[i + 1]);
-    and_number(out, before, b':', register[i + 2])
+    let first = and_number(rt, out, at, b' ', register[i]);
+    let before = and_number(rt, out, first, b':', register[i + 1]);
+    and_number(rt, out, before, b':', register[i + 2])
 }
 
-fn entries(register: &[u64], count: usize, out: &mut [u8], at: usize) -> usize {
+fn entries(rt: HostRuntime, register: &[u64], count: usize, out: &mut [u8], at: usize) -> usize {
     let mut next = at;
     let mut k = 0;
     while k < count {
-        next = entry(register, k, out, next);
+        next = entry(rt, register, k, out, next);
         k += 1;
     }
     next
 }
 
-fn records(tape: &[u64], count: usize, out: &mut [u8], at: usize) -> usize {
+fn records(rt: HostRuntime, tape: &[u64], count: usize, out: &mut [u8], at: usize) -> usize {
     let mut next = at;
     let mut k = 0;
     while k < count {
-        next = record::words(tape, k, out, next);
+        next = record::words(rt, tape, k, out, next);
         k += 1;
     }
     next
 }
 
 // `-` for nothing, or a refusal's number and values, joined by `,`.
-fn and_stop(stop: Told, out: &mut [u8], at: usize) -> usize {
-    let next = print::put(out, at, b' ');
+fn and_stop(rt: HostRuntime, stop: Told, out: &mut [u8], at: usize) -> usize {
+    let next = print::put(rt, out, at, b' ');
     if stop.refusal == 0 {
-        return print::put(out, next, b'-');
+        return print::put(rt, out, next, b'-');
     }
-    answer::refusal(stop, b',', out, next)
+    answer::refusal(rt, stop, b',', out, next)
 }
 
 // What was read, if nothing else of tape and register has changed.
-fn shown(w: Walked, tape: &[u64], register: &[u64], out: &mut [u8], place: usize) -> usize {
+fn shown(
+    rt: HostRuntime,
+    w: Walked,
+    tape: &[u64],
+    register: &[u64],
+    out: &mut [u8],
+    place: usize,
+) -> usize {
     let frames = w.frames;
     let stop = w.refusal;
     let count = records_told(register, frames);
     if !kept(tape, count, register, frames) {
-        return print::text(out, place, b"# changed");
+        return print::text(rt, out, place, b"# changed");
     }
-    let start = print::put(out, place, b'=');
-    let consumed = and_number(out, start, b' ', w.consumed as u64);
-    let with_frames = and_number(out, consumed, b' ', frames as u64);
-    let with_stop = and_stop(of_stop(stop), out, with_frames);
-    let with_entries = entries(register, frames, out, with_stop);
-    records(tape, count, out, with_entries)
+    let start = print::put(rt, out, place, b'=');
+    let consumed = and_number(rt, out, start, b' ', w.consumed as u64);
+    let with_frames = and_number(rt, out, consumed, b' ', frames as u64);
+    let with_stop = and_stop(rt, of_stop(stop), out, with_frames);
+    let with_entries = entries(rt, register, frames, out, with_stop);
+    records(rt, tape, count, out, with_entries)
 }
 
 // The walk over `s`.
 pub fn answer(
+    rt: HostRuntime,
     s: &[u8],
     tape: &mut [u64],
     register: &mut [u64],
@@ -130,5 +138,5 @@ pub fn answer(
     lent::fill_words(tape);
     lent::fill_words(register);
     let w = walk(s, tape, register);
-    shown(w, tape, register, out, place)
+    shown(rt, w, tape, register, out, place)
 }

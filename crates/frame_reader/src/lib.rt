@@ -32,7 +32,7 @@ pub enum ReadFrameWords {
 }
 
 // None, or the refusal that stopped the walk.
-#[derive(Drop)]
+#[derive(Clone, Copy)]
 pub enum Stop {
     None,
     Refused(WireError),

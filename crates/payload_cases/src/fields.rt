@@ -21,7 +21,7 @@ const OF_COMMAND: [u8; 2] = [2, 2];
 const OF_HEADER: [u8; 3] = [2, 8, 2];
 
 // The fields of a payload from the first one on, up to `count` of them all, and how many records its table has.
-#[derive(Drop)]
+#[derive(Clone, Copy)]
 pub struct Source {
     pub first: usize,
     pub count: usize,
@@ -29,7 +29,7 @@ pub struct Source {
 }
 
 // The next field of the case, and the word that it gets. Past every field where one did not fit.
-#[derive(Drop)]
+#[derive(Clone, Copy)]
 struct Place {
     field: usize,
     word: usize,

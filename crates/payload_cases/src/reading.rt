@@ -15,7 +15,7 @@ use table_cases::lending::{USED, kept};
 use types::{Cursor, WireError};
 
 // What a reader answers: the position behind what was read, of a frame its type and channel too; the payload; its tape records.
-#[derive(Drop)]
+#[derive(Clone, Copy)]
 struct Reading {
     told: Told,
     words: Words,
@@ -90,6 +90,7 @@ fn read(op: u8, s: &[u8], at: usize, tape: &mut [u64]) -> Reading {
 
 // What was read, if nothing else of the tape has changed: what is filled must be the records of the payload.
 fn shown(
+    rt: HostRuntime,
     r: Reading,
     s: &[u8],
     tape: &[u64],
@@ -100,14 +101,15 @@ fn shown(
     let words = r.words;
     let told = r.told;
     if records_of(&words) != r.records || !kept(tape, r.records) {
-        return print::text(out, place, b"# changed");
+        return print::text(rt, out, place, b"# changed");
     }
-    let next = answer::shown(told, s, out, place);
-    and_payload(&words, s, tape, by_words, out, next)
+    let next = answer::shown(rt, told, s, out, place);
+    and_payload(rt, &words, s, tape, by_words, out, next)
 }
 
 // 22 to 24: what is read of `s` at a position, onto a tape that `fill_words` has filled.
 pub fn answer(
+    rt: HostRuntime,
     op: u8,
     s: &[u8],
     at: usize,
@@ -117,5 +119,5 @@ pub fn answer(
     place: usize,
 ) -> usize {
     let r = read(op, s, at, tape);
-    shown(r, s, tape, by_words, out, place)
+    shown(rt, r, s, tape, by_words, out, place)
 }

@@ -47,16 +47,25 @@ fn second(words: &Words, j: usize, field: u8) -> Span {
 }
 
 // A number, a bit or a string, behind `separator`.
-fn and_value(field: u8, v: Span, s: &[u8], separator: u8, out: &mut [u8], at: usize) -> usize {
+fn and_value(
+    rt: HostRuntime,
+    field: u8,
+    v: Span,
+    s: &[u8],
+    separator: u8,
+    out: &mut [u8],
+    at: usize,
+) -> usize {
     match field / 16 {
-        0x5 | 0xD => and_span(out, at, separator, s, v),
-        0xB => and_number(out, at, separator, v.start as u64 % 2),
-        _ => and_number(out, at, separator, v.start as u64),
+        0x5 | 0xD => and_span(rt, out, at, separator, s, v),
+        0xB => and_number(rt, out, at, separator, v.start as u64 % 2),
+        _ => and_number(rt, out, at, separator, v.start as u64),
     }
 }
 
 // The arguments of one field of a layout; 0 is none.
 fn and_field(
+    rt: HostRuntime,
     field: u8,
     words: &Words,
     j: usize,
@@ -68,15 +77,16 @@ fn and_field(
     if field == 0 || width_of(field) == 0 {
         return at;
     }
-    let first = and_value(field, pair_at(words, j), s, separator, out, at);
+    let first = and_value(rt, field, pair_at(words, j), s, separator, out, at);
     if field != TWO_BITS && field != LOGIN {
         return first;
     }
-    and_value(field, second(words, j, field), s, separator, out, first)
+    and_value(rt, field, second(words, j, field), s, separator, out, first)
 }
 
 // The arguments of a layout, from word `from` on.
 fn and_fields(
+    rt: HostRuntime,
     layout: &[u8],
     words: &Words,
     from: usize,
@@ -88,7 +98,7 @@ fn and_fields(
     let mut j = from;
     let mut i = 0;
     while i < layout.len() {
-        next = and_field(layout[i], words, j, s, b' ', out, next);
+        next = and_field(rt, layout[i], words, j, s, b' ', out, next);
         j = wrapping_add_usize(j, width_of(layout[i]));
         i += 1;
     }
@@ -97,6 +107,7 @@ fn and_fields(
 
 // ` FLAG=VALUE` of property i, where it is present; a table is its number of records and these.
 fn and_property(
+    rt: HostRuntime,
     i: usize,
     present: bool,
     words: &Words,
@@ -114,18 +125,19 @@ fn and_property(
         return at;
     }
     let layout = property_fields();
-    let next = print::put(out, at, b' ');
-    let end = print::decimal(out, next, (15 - i) as u64);
+    let next = print::put(rt, out, at, b' ');
+    let end = print::decimal(rt, out, next, (15 - i) as u64);
     if i != HEADERS {
-        return and_field(layout[i], words, j, s, b'=', out, end);
+        return and_field(rt, layout[i], words, j, s, b'=', out, end);
     }
     let count = word_at(words, j);
-    let value = and_number(out, end, b'=', count);
-    records(s, tape, count as usize, by_words, out, value)
+    let value = and_number(rt, out, end, b'=', count);
+    records(rt, s, tape, count as usize, by_words, out, value)
 }
 
 // Those that are present, the highest of thirteen bits being the first property's.
 fn and_properties(
+    rt: HostRuntime,
     words: &Words,
     s: &[u8],
     tape: &[u64],
@@ -140,7 +152,7 @@ fn and_properties(
     let mut i = 0;
     while i < 13 {
         let present = left / 0x1000 == 1;
-        next = and_property(i, present, words, j, s, tape, by_words, out, next);
+        next = and_property(rt, i, present, words, j, s, tape, by_words, out, next);
         j = wrapping_add_usize(j, if present { width_of(layout[i]) } else { 0 });
         left = left % 0x1000 * 2;
         i += 1;
@@ -148,16 +160,17 @@ fn and_properties(
     next
 }
 
-fn and_command(words: &Words, s: &[u8], out: &mut [u8], at: usize) -> usize {
+fn and_command(rt: HostRuntime, words: &Words, s: &[u8], out: &mut [u8], at: usize) -> usize {
     let class = (words[1] % 0x1_0000) as u16;
     let method = (words[2] % 0x1_0000) as u16;
     let layout = layout_of(class, method);
     let fields = layout.fields;
-    let next = and_fields(&OF_COMMAND, words, 1, s, out, at);
-    and_fields(&fields, words, 3, s, out, next)
+    let next = and_fields(rt, &OF_COMMAND, words, 1, s, out, at);
+    and_fields(rt, &fields, words, 3, s, out, next)
 }
 
 pub(crate) fn and_payload(
+    rt: HostRuntime,
     words: &Words,
     s: &[u8],
     tape: &[u64],
@@ -166,12 +179,12 @@ pub(crate) fn and_payload(
     at: usize,
 ) -> usize {
     match words[0] {
-        1 => and_command(words, s, out, at),
+        1 => and_command(rt, words, s, out, at),
         2 => {
-            let next = and_fields(&OF_HEADER, words, 1, s, out, at);
-            and_properties(words, s, tape, by_words, out, next)
+            let next = and_fields(rt, &OF_HEADER, words, 1, s, out, at);
+            and_properties(rt, words, s, tape, by_words, out, next)
         }
-        3 => and_fields(&OF_BODY, words, 1, s, out, at),
+        3 => and_fields(rt, &OF_BODY, words, 1, s, out, at),
         _ => at,
     }
 }

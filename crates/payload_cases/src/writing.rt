@@ -11,7 +11,7 @@ use payload_words::{PayloadFrom, payload_from};
 use writers::Written;
 
 // A payload alone, or a frame on a channel.
-#[derive(Drop)]
+#[derive(Clone, Copy)]
 struct Framing {
     is_frame: bool,
     channel: u16,

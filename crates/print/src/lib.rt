@@ -1,33 +1,33 @@
 // Text on standard output, through a lent buffer that is written whenever it is full. A function takes the place in the buffer for
-// its first octet and answers the place behind its last.
+// its first octet and answers the place behind its last. A write that fails is told on standard error, and its text is lost.
+#![tactic(auto)]
+
 ghost use Rattle.std.specs.Prelude.{◌≡◌, ◌+◌, ◌≤◌, length};
 
-use libc::{STDERR_FILENO, STDOUT_FILENO};
-
-fn write(s: &[u8]) {
-    if !io::write_all(STDOUT_FILENO, s) {
-        io::write_all(STDERR_FILENO, b"output failed\n");
+fn write(rt: HostRuntime, s: &[u8]) {
+    if rt.write_all(s).is_err() {
+        let _ = eprintln!(rt; "output failed");
     }
 }
 
 // Writes what stands in front of `at`. The next octet has the first place then.
-pub fn flush(out: &[u8], at: usize) -> usize
+pub fn flush(rt: HostRuntime, out: &[u8], at: usize) -> usize
     ensures { result ≡ 0 }
 {
     if at <= out.len() {
-        write(&out[0..at]);
+        write(rt, &out[0..at]);
     }
     0
 }
 
 // The place for n octets more: the first one where the buffer has no room for them behind `at`.
-fn place_for(out: &[u8], at: usize, n: usize) -> usize
+fn place_for(rt: HostRuntime, out: &[u8], at: usize, n: usize) -> usize
     ensures { result ≤ length out.now }
 {
     if at <= out.len() && n <= out.len() - at {
         return at;
     }
-    flush(out, at)
+    flush(rt, out, at)
 }
 
 // A place behind the buffer is its end.
@@ -48,23 +48,23 @@ fn copy(out: &mut [u8], at: usize, s: &[u8])
     }
 }
 
-pub fn text(out: &mut [u8], at: usize, s: &[u8]) -> usize
+pub fn text(rt: HostRuntime, out: &mut [u8], at: usize, s: &[u8]) -> usize
     ensures { result ≤ length out.old }
 {
-    let start = place_for(out, at, s.len());
+    let start = place_for(rt, out, at, s.len());
     if out.len() - start < s.len() {
         // It is longer than the whole buffer, which has been written.
-        write(s);
+        write(rt, s);
         return start;
     }
     copy(out, start, s);
     start + s.len()
 }
 
-pub fn put(out: &mut [u8], at: usize, b: u8) -> usize
+pub fn put(rt: HostRuntime, out: &mut [u8], at: usize, b: u8) -> usize
     ensures { result ≤ length out.old }
 {
-    let start = place_for(out, at, 1);
+    let start = place_for(rt, out, at, 1);
     if out.len() <= start {
         return start;
     }
@@ -72,7 +72,7 @@ pub fn put(out: &mut [u8], at: usize, b: u8) -> usize
     start + 1
 }
 
-pub fn decimal(out: &mut [u8], at: usize, n: u64) -> usize
+pub fn decimal(rt: HostRuntime, out: &mut [u8], at: usize, n: u64) -> usize
     ensures { result ≤ length out.old }
 {
     let mut digits = [0u8; 20];
@@ -84,16 +84,23 @@ pub fn decimal(out: &mut [u8], at: usize, n: u64) -> usize
         digits[i] = b'0' + (rest % 10) as u8;
         rest /= 10;
     }
-    text(out, at, &digits[i..])
+    text(rt, out, at, &digits[i..])
 }
 
 // Without leading zeros.
-pub fn hex(out: &mut [u8], at: usize, n: u64) -> usize
+pub fn hex(rt: HostRuntime, out: &mut [u8], at: usize, n: u64) -> usize
     ensures { result ≤ length out.old }
 {
     let mut digits = [0u8; 16];
-    let k = io::hex(n, 1, &mut digits);
-    text(out, at, &digits[..k])
+    digits[15] = digit((n % 16) as u8);
+    let mut rest = n / 16;
+    let mut i = 15;
+    while 0 < i && rest != 0 {
+        i -= 1;
+        digits[i] = digit((rest % 16) as u8);
+        rest /= 16;
+    }
+    text(rt, out, at, &digits[i..])
 }
 
 fn digit(x: u8) -> u8 {
@@ -105,14 +112,14 @@ fn digit(x: u8) -> u8 {
 }
 
 // Two digits an octet.
-pub fn octets(out: &mut [u8], at: usize, s: &[u8]) -> usize
+pub fn octets(rt: HostRuntime, out: &mut [u8], at: usize, s: &[u8]) -> usize
     ensures { result ≤ length out.old }
 {
     let mut next = inside(out, at);
     let mut i = 0;
     while i < s.len() {
         let b = s[i];
-        next = text(out, next, &[digit(b / 16), digit(b)]);
+        next = text(rt, out, next, &[digit(b / 16), digit(b)]);
         i += 1;
     }
     next

@@ -5,7 +5,7 @@ use cases::line::{Marks, NO_LIMIT};
 
 // The operation, its position and limit; how many fields there are, how many octets the pool holds, and how many words of the tape the
 // records are.
-#[derive(Drop)]
+#[derive(Clone, Copy)]
 pub struct Case {
     pub op: u8,
     pub at: usize,

@@ -28,74 +28,83 @@ fn letter_of(v: Told, letter: u64) -> u8 {
 }
 
 // :VALUE, which is `-` where there is none.
-fn and_value(v: Told, s: &[u8], out: &mut [u8], at: usize) -> usize
+fn and_value(rt: HostRuntime, v: Told, s: &[u8], out: &mut [u8], at: usize) -> usize
     ensures { result ≤ length out.old }
 {
     let octets = v.octets;
     if v.has_octets {
-        return and_span(out, at, b':', s, octets);
+        return and_span(rt, out, at, b':', s, octets);
     }
     if v.count == 0 {
-        return print::text(out, at, b":-");
+        return print::text(rt, out, at, b":-");
     }
-    let first = and_number(out, at, b':', v.first);
+    let first = and_number(rt, out, at, b':', v.first);
     if v.count == 1 {
         return first;
     }
-    and_number(out, first, b',', v.second)
+    and_number(rt, out, first, b',', v.second)
 }
 
 // LETTER:NAME:VALUE:BENEATH.
-fn shown(r: TapeRecord, s: &[u8], out: &mut [u8], at: usize) -> usize
+fn shown(rt: HostRuntime, r: TapeRecord, s: &[u8], out: &mut [u8], at: usize) -> usize
     ensures { result ≤ length out.old }
 {
     let name = r.name;
     let v = of_record(r);
-    let letter = print::put(out, at, letter_of(v, r.letter));
-    let with_name = and_span(out, letter, b':', s, name);
-    let with_value = and_value(v, s, out, with_name);
-    and_number(out, with_value, b':', r.beneath as u64)
+    let letter = print::put(rt, out, at, letter_of(v, r.letter));
+    let with_name = and_span(rt, out, letter, b':', s, name);
+    let with_value = and_value(rt, v, s, out, with_name);
+    and_number(rt, out, with_value, b':', r.beneath as u64)
 }
 
 // Record number k by its contents, behind a space.
-fn contents(s: &[u8], tape: &[u64], k: usize, out: &mut [u8], at: usize) -> usize
+fn contents(rt: HostRuntime, s: &[u8], tape: &[u64], k: usize, out: &mut [u8], at: usize) -> usize
     ensures { result ≤ length out.old }
 {
-    let next = print::put(out, at, b' ');
+    let next = print::put(rt, out, at, b' ');
     match record_at(tape, k) {
-        ReadRecord::Refused(_) => print::put(out, next, b'?'),
-        ReadRecord::Value(r) => shown(r, s, out, next),
+        ReadRecord::Refused(_) => print::put(rt, out, next, b'?'),
+        ReadRecord::Value(r) => shown(rt, r, s, out, next),
     }
 }
 
 // Record number k by its words, behind ` #`.
-pub fn words(tape: &[u64], k: usize, out: &mut [u8], at: usize) -> usize
+pub fn words(rt: HostRuntime, tape: &[u64], k: usize, out: &mut [u8], at: usize) -> usize
     ensures { result ≤ length out.old }
 {
-    let mut next = print::put(out, at, b' ');
+    let mut next = print::put(rt, out, at, b' ');
     if tape.len() / RECORD_WORDS <= k {
-        return print::put(out, next, b'?');
+        return print::put(rt, out, next, b'?');
     }
     let mut j = 0;
     while j < RECORD_WORDS {
         let separator = if j == 0 { b'#' } else { b':' };
-        next = and_number(out, next, separator, tape[k * RECORD_WORDS + j]);
+        next = and_number(rt, out, next, separator, tape[k * RECORD_WORDS + j]);
         j += 1;
     }
     next
 }
 
 // Record number k behind the used ones, by its contents or by its words.
-fn one(s: &[u8], tape: &[u64], k: usize, by_words: bool, out: &mut [u8], at: usize) -> usize {
+fn one(
+    rt: HostRuntime,
+    s: &[u8],
+    tape: &[u64],
+    k: usize,
+    by_words: bool,
+    out: &mut [u8],
+    at: usize,
+) -> usize {
     let number = wrapping_add_usize(USED, k);
     if by_words {
-        return words(tape, number, out, at);
+        return words(rt, tape, number, out, at);
     }
-    contents(s, tape, number, out, at)
+    contents(rt, s, tape, number, out, at)
 }
 
 // So many of them.
 pub fn records(
+    rt: HostRuntime,
     s: &[u8],
     tape: &[u64],
     count: usize,
@@ -106,7 +115,7 @@ pub fn records(
     let mut next = at;
     let mut k = 0;
     while k < count {
-        next = one(s, tape, k, by_words, out, next);
+        next = one(rt, s, tape, k, by_words, out, next);
         k += 1;
     }
     next

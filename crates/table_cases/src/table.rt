@@ -23,17 +23,26 @@ fn read(op: u8, s: &[u8], at: usize, tape: &mut [u64]) -> Told {
 }
 
 // What was read, if nothing else of the tape has changed: so many records.
-fn shown(t: Told, s: &[u8], tape: &[u64], by_words: bool, out: &mut [u8], place: usize) -> usize {
+fn shown(
+    rt: HostRuntime,
+    t: Told,
+    s: &[u8],
+    tape: &[u64],
+    by_words: bool,
+    out: &mut [u8],
+    place: usize,
+) -> usize {
     let count = if t.refusal == 0 { t.first as usize } else { 0 };
     if !kept(tape, count) {
-        return print::text(out, place, b"# changed");
+        return print::text(rt, out, place, b"# changed");
     }
-    let next = answer::shown(t, s, out, place);
-    records(s, tape, count, by_words, out, next)
+    let next = answer::shown(rt, t, s, out, place);
+    records(rt, s, tape, count, by_words, out, next)
 }
 
 // 20 and 21: what is read of `s` at a position, onto a tape that `fill_words` has filled.
 pub fn answer(
+    rt: HostRuntime,
     op: u8,
     s: &[u8],
     at: usize,
@@ -43,7 +52,7 @@ pub fn answer(
     place: usize,
 ) -> usize {
     let t = read(op, s, at, tape);
-    shown(t, s, tape, by_words, out, place)
+    shown(rt, t, s, tape, by_words, out, place)
 }
 
 // 50 and 51.

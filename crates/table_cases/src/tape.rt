@@ -7,7 +7,7 @@ use std::num::{wrapping_add_usize, wrapping_sub_usize};
 use tables::tape::RECORD_WORDS;
 
 // The place of the next word of the line, the octets that the pool holds, and the words of the tape.
-#[derive(Drop)]
+#[derive(Clone, Copy)]
 pub struct Taken {
     pub next: usize,
     pub held: usize,

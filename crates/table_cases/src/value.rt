@@ -90,11 +90,11 @@ pub fn told(op: u8, tape: &[u64]) -> Told {
 }
 
 // `=`, the letter, and what the value is.
-pub fn shown(t: Told, s: &[u8], out: &mut [u8], at: usize) -> usize {
+pub fn shown(rt: HostRuntime, t: Told, s: &[u8], out: &mut [u8], at: usize) -> usize {
     if t.refusal != 0 {
-        return print::put(out, at, b'?');
+        return print::put(rt, out, at, b'?');
     }
-    let start = print::text(out, at, b"= ");
-    let letter = print::put(out, start, (t.next % 256) as u8);
-    answer::and_rest(t, s, out, letter)
+    let start = print::text(rt, out, at, b"= ");
+    let letter = print::put(rt, out, start, (t.next % 256) as u8);
+    answer::and_rest(rt, t, s, out, letter)
 }

@@ -23,7 +23,7 @@ pub enum Kind {
 }
 
 // A record of the tape.
-#[derive(Drop)]
+#[derive(Clone, Copy)]
 pub struct TapeRecord {
     pub letter: u64,
     pub name: Span,

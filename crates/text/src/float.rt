@@ -6,7 +6,7 @@ use bits::{f32_bits, f64_bits};
 use std::num::wrapping_add_u64;
 
 // The fields of a float; and of its format the weight of the bit that is not stored, the exponent of infinity, and the offset.
-#[derive(Drop)]
+#[derive(Clone, Copy)]
 struct Fields {
     negative: bool,
     exponent: u64,
@@ -17,7 +17,7 @@ struct Fields {
 }
 
 // A number below 1, in units of 2^-120: two parts of 60 bits.
-#[derive(Drop)]
+#[derive(Clone, Copy)]
 struct Part {
     high: u64,
     low: u64,
@@ -26,7 +26,7 @@ struct Part {
 const LIMIT: u64 = 0x1000_0000_0000_0000;
 
 // The digits behind the point, and whether the last is to be one more.
-#[derive(Drop)]
+#[derive(Clone, Copy)]
 struct Digits {
     digits: [u8; 64],
     count: usize,
@@ -119,36 +119,49 @@ fn raised(d: Digits) -> Digits
     }
 }
 
-fn behind_point(out: &mut [u8], at: usize, digits: &[u8; 64], count: usize) -> usize
+fn behind_point(
+    rt: HostRuntime,
+    out: &mut [u8],
+    at: usize,
+    digits: &[u8; 64],
+    count: usize,
+) -> usize
     requires { count ≤ 60 }
     ensures { result ≤ length out.old }
 {
-    let point = print::put(out, at, b'.');
+    let point = print::put(rt, out, at, b'.');
     let all = &digits[..];
-    print::text(out, point, &all[0..count])
+    print::text(rt, out, point, &all[0..count])
 }
 
-fn with_point(out: &mut [u8], at: usize, integer: u64, d: Digits) -> usize
+fn with_point(rt: HostRuntime, out: &mut [u8], at: usize, integer: u64, d: Digits) -> usize
     requires { d.count ≤ 60 }
     ensures { result ≤ length out.old }
 {
     if d.count == 0 {
-        return print::decimal(out, at, wrapping_add_u64(integer, d.up as u64));
+        return print::decimal(rt, out, at, wrapping_add_u64(integer, d.up as u64));
     }
     let last = raised(d);
     let digits = last.digits;
     let count = last.count;
-    let next = print::decimal(out, at, integer);
-    behind_point(out, next, &digits, count)
+    let next = print::decimal(rt, out, at, integer);
+    behind_point(rt, out, next, &digits, count)
 }
 
-fn power(out: &mut [u8], at: usize, mantissa: u64, sign: &[u8], exponent: u64) -> usize
+fn power(
+    rt: HostRuntime,
+    out: &mut [u8],
+    at: usize,
+    mantissa: u64,
+    sign: &[u8],
+    exponent: u64,
+) -> usize
     ensures { result ≤ length out.old }
 {
-    let number = print::decimal(out, at, mantissa);
-    let base = print::text(out, number, b" * 2^");
-    let next = print::text(out, base, sign);
-    print::decimal(out, next, exponent)
+    let number = print::decimal(rt, out, at, mantissa);
+    let base = print::text(rt, out, number, b" * 2^");
+    let next = print::text(rt, out, base, sign);
+    print::decimal(rt, out, next, exponent)
 }
 
 // Half the way to the next float, for one in units of 2^-places; below a power of two it is half as far.
@@ -162,7 +175,14 @@ fn half_way_of(places: u64, power_of_two: bool) -> Part
 }
 
 // mantissa * 2^-places
-fn fraction(out: &mut [u8], at: usize, mantissa: u64, places: u64, power_of_two: bool) -> usize
+fn fraction(
+    rt: HostRuntime,
+    out: &mut [u8],
+    at: usize,
+    mantissa: u64,
+    places: u64,
+    power_of_two: bool,
+) -> usize
     requires { (0 < places) × (places ≤ 110) }
     ensures { result ≤ length out.old }
 {
@@ -171,50 +191,57 @@ fn fraction(out: &mut [u8], at: usize, mantissa: u64, places: u64, power_of_two:
     if places < 64 {
         let behind = mantissa << (64 - places) >> (64 - places);
         let digits = digits_of(part_of(behind, shift), half_way);
-        return with_point(out, at, mantissa >> places, digits);
+        return with_point(rt, out, at, mantissa >> places, digits);
     }
-    with_point(out, at, 0, digits_of(part_of(mantissa, shift), half_way))
+    with_point(
+        rt,
+        out,
+        at,
+        0,
+        digits_of(part_of(mantissa, shift), half_way),
+    )
 }
 
-fn finite(out: &mut [u8], at: usize, mantissa: u64, scale: u64, f: Fields) -> usize
+fn finite(rt: HostRuntime, out: &mut [u8], at: usize, mantissa: u64, scale: u64, f: Fields) -> usize
     ensures { result ≤ length out.old }
 {
     let offset = f.offset;
     if offset <= scale {
         if scale - offset <= 10 {
-            return print::decimal(out, at, mantissa << (scale - offset));
+            return print::decimal(rt, out, at, mantissa << (scale - offset));
         }
-        return power(out, at, mantissa, b"", scale - offset);
+        return power(rt, out, at, mantissa, b"", scale - offset);
     }
     if 110 < offset - scale {
-        return power(out, at, mantissa, b"-", offset - scale);
+        return power(rt, out, at, mantissa, b"-", offset - scale);
     }
-    fraction(out, at, mantissa, offset - scale, f.fraction == 0)
+    fraction(rt, out, at, mantissa, offset - scale, f.fraction == 0)
 }
 
-fn sign(out: &mut [u8], at: usize, negative: bool) -> usize
+fn sign(rt: HostRuntime, out: &mut [u8], at: usize, negative: bool) -> usize
     ensures { result ≤ length out.old }
 {
     if negative {
-        return print::put(out, at, b'-');
+        return print::put(rt, out, at, b'-');
     }
     print::inside(out, at)
 }
 
-fn float(out: &mut [u8], at: usize, f: Fields) -> usize
+fn float(rt: HostRuntime, out: &mut [u8], at: usize, f: Fields) -> usize
     ensures { result ≤ length out.old }
 {
-    let next = sign(out, at, f.negative);
+    let next = sign(rt, out, at, f.negative);
     if f.exponent == f.infinity {
-        return print::text(out, next, b"inf");
+        return print::text(rt, out, next, b"inf");
     }
     if f.exponent == 0 {
         if f.fraction == 0 {
-            return print::put(out, next, b'0');
+            return print::put(rt, out, next, b'0');
         }
-        return finite(out, next, f.fraction, 1, f);
+        return finite(rt, out, next, f.fraction, 1, f);
     }
     finite(
+        rt,
         out,
         next,
         wrapping_add_u64(f.fraction, f.unstored),
@@ -223,11 +250,12 @@ fn float(out: &mut [u8], at: usize, f: Fields) -> usize
     )
 }
 
-pub fn float32(out: &mut [u8], at: usize, x: f32) -> usize
+pub fn float32(rt: HostRuntime, out: &mut [u8], at: usize, x: f32) -> usize
     ensures { result ≤ length out.old }
 {
     let n = f32_bits(x) as u64;
     float(
+        rt,
         out,
         at,
         Fields {
@@ -241,11 +269,12 @@ pub fn float32(out: &mut [u8], at: usize, x: f32) -> usize
     )
 }
 
-pub fn float64(out: &mut [u8], at: usize, x: f64) -> usize
+pub fn float64(rt: HostRuntime, out: &mut [u8], at: usize, x: f64) -> usize
     ensures { result ≤ length out.old }
 {
     let n = f64_bits(x);
     float(
+        rt,
         out,
         at,
         Fields {
@@ -260,9 +289,9 @@ pub fn float64(out: &mut [u8], at: usize, x: f64) -> usize
 }
 
 // A NaN is its bits.
-pub fn nan(out: &mut [u8], at: usize, bits: u64) -> usize
+pub fn nan(rt: HostRuntime, out: &mut [u8], at: usize, bits: u64) -> usize
     ensures { result ≤ length out.old }
 {
-    let next = print::text(out, at, b"NaN 0x");
-    print::hex(out, next, bits)
+    let next = print::text(rt, out, at, b"NaN 0x");
+    print::hex(rt, out, next, bits)
 }

@@ -48,48 +48,48 @@ fn plain_end(s: &[u8], from: usize, utf8: bool) -> usize
     i
 }
 
-pub fn quoted(out: &mut [u8], at: usize, s: &[u8]) -> usize
+pub fn quoted(rt: HostRuntime, out: &mut [u8], at: usize, s: &[u8]) -> usize
     ensures { result ≤ length out.old }
 {
     let utf8 = is_utf8(s);
-    let mut next = print::put(out, at, b'"');
+    let mut next = print::put(rt, out, at, b'"');
     let mut i = 0;
     while i < s.len() {
         let end = plain_end(s, i, utf8);
-        next = print::text(out, next, &s[i..end]);
+        next = print::text(rt, out, next, &s[i..end]);
         i = end;
         if end < s.len() {
-            next = print::text(out, next, b"\\x");
+            next = print::text(rt, out, next, b"\\x");
             i = end + 1;
-            next = print::octets(out, next, &s[end..i]);
+            next = print::octets(rt, out, next, &s[end..i]);
         }
     }
-    print::put(out, next, b'"')
+    print::put(rt, out, next, b'"')
 }
 
 // Octets that are no text.
-pub fn octets(out: &mut [u8], at: usize, s: &[u8]) -> usize
+pub fn octets(rt: HostRuntime, out: &mut [u8], at: usize, s: &[u8]) -> usize
     ensures { result ≤ length out.old }
 {
-    let next = print::text(out, at, b"0x");
-    print::octets(out, next, s)
+    let next = print::text(rt, out, at, b"0x");
+    print::octets(rt, out, next, s)
 }
 
 // A span of `s`, as text or as octets. One that reaches outside, as no reader answers it, shows as `?`.
-pub fn span(out: &mut [u8], at: usize, s: &[u8], v: Span, text: bool) -> usize
+pub fn span(rt: HostRuntime, out: &mut [u8], at: usize, s: &[u8], v: Span, text: bool) -> usize
     ensures { result ≤ length out.old }
 {
     let start = v.start;
     let len = v.len;
     if s.len() < start {
-        return print::put(out, at, b'?');
+        return print::put(rt, out, at, b'?');
     }
     if s.len() - start < len {
-        return print::put(out, at, b'?');
+        return print::put(rt, out, at, b'?');
     }
     let end = start + len;
     if text {
-        return quoted(out, at, &s[start..end]);
+        return quoted(rt, out, at, &s[start..end]);
     }
-    octets(out, at, &s[start..end])
+    octets(rt, out, at, &s[start..end])
 }

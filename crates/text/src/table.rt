@@ -14,62 +14,63 @@ const LEVELS: usize = 16;
 
 const TABLE: u64 = 0x46;
 
-fn leaf(out: &mut [u8], at: usize, s: &[u8], v: FieldValue) -> usize
+fn leaf(rt: HostRuntime, out: &mut [u8], at: usize, s: &[u8], v: FieldValue) -> usize
     ensures { result ≤ length out.old }
 {
     match v {
-        FieldValue::Bool(b) => number::flag(out, at, b),
-        FieldValue::I8(z) => signed(out, at, unsigned8(z) as u64, HALF8),
-        FieldValue::U8(n) => print::decimal(out, at, n as u64),
-        FieldValue::I16(z) => signed(out, at, unsigned16(z) as u64, HALF16),
-        FieldValue::U16(n) => print::decimal(out, at, n as u64),
-        FieldValue::I32(z) => signed(out, at, unsigned32(z) as u64, HALF32),
-        FieldValue::U32(n) => print::decimal(out, at, n as u64),
-        FieldValue::I64(z) => signed(out, at, unsigned64(z), HALF64),
-        FieldValue::F32(x) => float::float32(out, at, x),
-        FieldValue::F32Nan(n) => float::nan(out, at, n as u64),
-        FieldValue::F64(x) => float::float64(out, at, x),
-        FieldValue::F64Nan(n) => float::nan(out, at, n),
-        FieldValue::Decimal { scale, value } => number::scaled(out, at, scale, value),
-        FieldValue::LongStr(v) => string::span(out, at, s, v, true),
-        FieldValue::Bytes(v) => string::span(out, at, s, v, false),
-        FieldValue::Timestamp(n) => number::timestamp(out, at, n),
-        FieldValue::Void => print::text(out, at, b"void"),
+        FieldValue::Bool(b) => number::flag(rt, out, at, b),
+        FieldValue::I8(z) => signed(rt, out, at, unsigned8(z) as u64, HALF8),
+        FieldValue::U8(n) => print::decimal(rt, out, at, n as u64),
+        FieldValue::I16(z) => signed(rt, out, at, unsigned16(z) as u64, HALF16),
+        FieldValue::U16(n) => print::decimal(rt, out, at, n as u64),
+        FieldValue::I32(z) => signed(rt, out, at, unsigned32(z) as u64, HALF32),
+        FieldValue::U32(n) => print::decimal(rt, out, at, n as u64),
+        FieldValue::I64(z) => signed(rt, out, at, unsigned64(z), HALF64),
+        FieldValue::F32(x) => float::float32(rt, out, at, x),
+        FieldValue::F32Nan(n) => float::nan(rt, out, at, n as u64),
+        FieldValue::F64(x) => float::float64(rt, out, at, x),
+        FieldValue::F64Nan(n) => float::nan(rt, out, at, n),
+        FieldValue::Decimal { scale, value } => number::scaled(rt, out, at, scale, value),
+        FieldValue::LongStr(v) => string::span(rt, out, at, s, v, true),
+        FieldValue::Bytes(v) => string::span(rt, out, at, s, v, false),
+        FieldValue::Timestamp(n) => number::timestamp(rt, out, at, n),
+        FieldValue::Void => print::text(rt, out, at, b"void"),
     }
 }
 
-fn name(out: &mut [u8], at: usize, s: &[u8], v: Span) -> usize
+fn name(rt: HostRuntime, out: &mut [u8], at: usize, s: &[u8], v: Span) -> usize
     ensures { result ≤ length out.old }
 {
-    let end = string::span(out, at, s, v, true);
-    print::text(out, end, b": ")
+    let end = string::span(rt, out, at, s, v, true);
+    print::text(rt, out, end, b": ")
 }
 
 // The name and the letter.
-fn label(out: &mut [u8], at: usize, s: &[u8], r: TapeRecord, named: bool) -> usize
+fn label(rt: HostRuntime, out: &mut [u8], at: usize, s: &[u8], r: TapeRecord, named: bool) -> usize
     ensures { result ≤ length out.old }
 {
     let letter = [(r.letter % 256) as u8, b' '];
     if named {
-        let next = name(out, at, s, r.name);
-        return print::text(out, next, &letter);
+        let next = name(rt, out, at, s, r.name);
+        return print::text(rt, out, next, &letter);
     }
-    print::text(out, at, &letter)
+    print::text(rt, out, at, &letter)
 }
 
 // A comma behind another entry.
-fn comma(out: &mut [u8], at: usize, first: bool) -> usize
+fn comma(rt: HostRuntime, out: &mut [u8], at: usize, first: bool) -> usize
     ensures { result ≤ length out.old }
 {
     if first {
         return print::inside(out, at);
     }
-    print::text(out, at, b", ")
+    print::text(rt, out, at, b", ")
 }
 
 // The records from `from` on up to `end`.
 #[cycle(container_entries_value_of)]
 fn entries(
+    rt: HostRuntime,
     out: &mut [u8],
     at: usize,
     s: &[u8],
@@ -85,15 +86,15 @@ fn entries(
     let mut k = from;
     while k < end {
         let ReadRecord::Value(r) = record_at(tape, k) else {
-            return print::put(out, next, b'?');
+            return print::put(rt, out, next, b'?');
         };
         let beneath = r.beneath;
         if end - k <= beneath {
-            return print::put(out, next, b'?');
+            return print::put(rt, out, next, b'?');
         }
-        let entry = comma(out, next, k == from);
-        let value = label(out, entry, s, r, named);
-        next = value_of(out, value, s, tape, k, r, levels);
+        let entry = comma(rt, out, next, k == from);
+        let value = label(rt, out, entry, s, r, named);
+        next = value_of(rt, out, value, s, tape, k, r, levels);
         k += 1 + beneath;
     }
     next
@@ -102,6 +103,7 @@ fn entries(
 // A leaf, or what lies beneath a table or an array.
 #[cycle(container_entries_value_of)]
 fn value_of(
+    rt: HostRuntime,
     out: &mut [u8],
     at: usize,
     s: &[u8],
@@ -114,13 +116,14 @@ fn value_of(
     ensures { result ≤ length out.old }
 {
     match r.value() {
-        LeafValue::Value(v) => leaf(out, at, s, v),
+        LeafValue::Value(v) => leaf(rt, out, at, s, v),
         LeafValue::None => {
             if levels == 0 {
-                return print::put(out, at, b'?');
+                return print::put(rt, out, at, b'?');
             }
             let from = k + 1;
             container(
+                rt,
                 out,
                 at,
                 s,
@@ -136,6 +139,7 @@ fn value_of(
 
 #[cycle(container_entries_value_of)]
 fn container(
+    rt: HostRuntime,
     out: &mut [u8],
     at: usize,
     s: &[u8],
@@ -148,18 +152,25 @@ fn container(
     ensures { result ≤ length out.old }
 {
     if table {
-        let open = print::put(out, at, b'{');
-        let close = entries(out, open, s, tape, from, end, levels, true);
-        return print::put(out, close, b'}');
+        let open = print::put(rt, out, at, b'{');
+        let close = entries(rt, out, open, s, tape, from, end, levels, true);
+        return print::put(rt, out, close, b'}');
     }
-    let open = print::put(out, at, b'[');
-    let close = entries(out, open, s, tape, from, end, levels, false);
-    print::put(out, close, b']')
+    let open = print::put(rt, out, at, b'[');
+    let close = entries(rt, out, open, s, tape, from, end, levels, false);
+    print::put(rt, out, close, b']')
 }
 
 // A table whose records are the first `count` of a tape.
-pub fn table(out: &mut [u8], at: usize, s: &[u8], tape: &[u64], count: usize) -> usize
+pub fn table(
+    rt: HostRuntime,
+    out: &mut [u8],
+    at: usize,
+    s: &[u8],
+    tape: &[u64],
+    count: usize,
+) -> usize
     ensures { result ≤ length out.old }
 {
-    container(out, at, s, tape, 0, count, LEVELS, true)
+    container(rt, out, at, s, tape, 0, count, LEVELS, true)
 }

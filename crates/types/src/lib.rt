@@ -7,7 +7,7 @@ mod refusals;
 mod strings;
 
 // The eleven refusals, in the order of document 01's two tables.
-#[derive(Drop)]
+#[derive(Clone, Copy)]
 pub enum WireError {
     Truncated,
     ShortStrTooLong,
