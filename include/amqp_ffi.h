@@ -1,4 +1,4 @@
-/* The proved AMQP 0-9-1 codec for C: the functions of crates/amqp_ffi, linked from target/staticlib/libamqp_ffi.a (`rt staticlib amqp_ffi`).
+/* The proved AMQP 0-9-1 codec for C: the functions of crates/amqp_ffi, linked from crates/amqp_ffi/out/libamqp_ffi.a (`bench/library`).
  *
  * Memory. All of it is the caller's; nothing is allocated and nothing is kept. A pointer comes with the number of its elements behind
  * it. What a function writes (out, tape, entries, payload, words) overlaps nothing else that it is given. A pointer is never NULL, not
