@@ -22,7 +22,7 @@ pub enum FrameType {
     Heartbeat,
 }
 
-#[derive(Drop)]
+#[derive(Clone, Copy)]
 pub enum KnownType {
     Known(FrameType),
     Unknown,

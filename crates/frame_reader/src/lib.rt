@@ -11,21 +11,21 @@ use frame::{Frame, Payload};
 use types::{Cursor, WireError};
 
 // A frame, and the cursor after it.
-#[derive(Drop)]
+#[derive(Clone, Copy)]
 pub enum Decoded {
     Value(Frame, Cursor),
     Refused(WireError),
 }
 
 // Channel and payload of a frame that was read, the number of its tape records, and the cursor after it.
-#[derive(Drop)]
+#[derive(Clone, Copy)]
 pub enum ReadFrame {
     Value(u16, Payload, usize, Cursor),
     Refused(WireError),
 }
 
 // A frame in words: its channel, the number of its tape records, and the cursor after it. Its payload is in the words lent.
-#[derive(Drop)]
+#[derive(Clone, Copy)]
 pub enum ReadFrameWords {
     Value(u16, usize, Cursor),
     Refused(WireError),
@@ -39,7 +39,7 @@ pub enum Stop {
 }
 
 // What the walk always ends with: frames read, octets consumed, and why it stopped.
-#[derive(Drop)]
+#[derive(Clone, Copy)]
 pub struct Walked {
     pub frames: usize,
     pub consumed: usize,

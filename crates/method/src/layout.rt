@@ -42,7 +42,7 @@ const LOGIN: u8 = 0xD0;
 const TABLE: u8 = 0xF0;
 
 // The first `count` of the fields, where the command is known.
-#[derive(Drop)]
+#[derive(Clone, Copy)]
 pub struct Layout {
     pub known: bool,
     pub count: usize,

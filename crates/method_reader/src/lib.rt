@@ -10,7 +10,7 @@ use method::{Command, ContentHeader};
 use types::{Cursor, WireError};
 
 // A command in words: class and method, the number of tape records filled, and the cursor after it. Its arguments are in the words lent.
-#[derive(Drop)]
+#[derive(Clone, Copy)]
 pub enum ReadCall {
     Value(u16, u16, usize, Cursor),
     Refused(WireError),
@@ -18,20 +18,20 @@ pub enum ReadCall {
 
 // A content header in words: class, body size, a bit for each property that is present, the first one highest of thirteen; the number of
 // tape records filled, and the cursor after it. Its properties are in the words lent.
-#[derive(Drop)]
+#[derive(Clone, Copy)]
 pub enum ReadHeaderWords {
     Value(u16, u64, u16, usize, Cursor),
     Refused(WireError),
 }
 
 // With the number of tape records filled, and the cursor after it.
-#[derive(Drop)]
+#[derive(Clone, Copy)]
 pub enum ReadCommand {
     Value(Command, usize, Cursor),
     Refused(WireError),
 }
 
-#[derive(Drop)]
+#[derive(Clone, Copy)]
 pub enum ReadContentHeader {
     Value(ContentHeader, usize, Cursor),
     Refused(WireError),

@@ -10,7 +10,7 @@ pub mod properties;
 use method::Command;
 
 // A command by its pair, and its arguments as words.
-#[derive(Drop)]
+#[derive(Clone, Copy)]
 pub struct Call {
     pub class: u16,
     pub method: u16,
@@ -18,14 +18,14 @@ pub struct Call {
 }
 
 // Unknown where no command has the class and method.
-#[derive(Drop)]
+#[derive(Clone, Copy)]
 pub enum KnownCommand {
     Known(Command),
     Unknown,
 }
 
 // A content header, a bit of `present` for each of the thirteen properties, the first one highest, and those as words.
-#[derive(Drop)]
+#[derive(Clone, Copy)]
 pub struct HeaderWords {
     pub class: u16,
     pub body_size: u64,

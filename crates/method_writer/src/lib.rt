@@ -10,7 +10,7 @@ mod sizes;
 use types::WireError;
 
 // How many octets a payload has, or its refusal.
-#[derive(Drop)]
+#[derive(Clone, Copy)]
 pub enum PayloadSize {
     Octets(usize),
     Refused(WireError),

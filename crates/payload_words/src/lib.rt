@@ -17,7 +17,7 @@ use method_words::{Call, HeaderWords, KnownCommand};
 use types::{Span, WireError};
 
 // What words stand for, or why they stand for no payload.
-#[derive(Drop)]
+#[derive(Clone, Copy)]
 pub enum PayloadFrom {
     Value(Payload),
     Refused(WireError),

@@ -12,26 +12,26 @@ ghost use Rattle.reader.specs.Reading.{taken, result_of, moving, reading, moving
 use table_reader::{ReadRecords, read_field_table};
 use types::{Cursor, ReadSpan, ReadU16, Span, WireError};
 
-#[derive(Drop)]
+#[derive(Clone, Copy)]
 pub struct Reader<'a> {
     buf: &'a [u8],
     pos: usize,
 }
 
-#[derive(Drop)]
+#[derive(Clone, Copy)]
 pub enum ResultU16 {
     Value(u16),
     Refused(WireError),
 }
 
-#[derive(Drop)]
+#[derive(Clone, Copy)]
 pub enum ResultSpan {
     Value(Span),
     Refused(WireError),
 }
 
 // How many tape records were filled.
-#[derive(Drop)]
+#[derive(Clone, Copy)]
 pub enum ResultRecords {
     Value(usize),
     Refused(WireError),

@@ -10,26 +10,26 @@ ghost use Rattle.replies.specs.AnswerOf.{answer_of_method_id, answer_of_tune_par
 
 use types::{Cursor, ReadSpan, ReadU16, ReadU32, ReadU64, Skipped, WireError};
 
-#[derive(Drop)]
+#[derive(Clone, Copy)]
 pub struct MethodId {
     pub class: u16,
     pub method: u16,
 }
 
-#[derive(Drop)]
+#[derive(Clone, Copy)]
 pub enum ReadMethodId {
     Value(MethodId, Cursor),
     Refused(WireError),
 }
 
-#[derive(Drop)]
+#[derive(Clone, Copy)]
 pub struct TuneParams {
     pub channel_max: u16,
     pub frame_max: u32,
     pub heartbeat: u16,
 }
 
-#[derive(Drop)]
+#[derive(Clone, Copy)]
 pub enum ReadTuneParams {
     Value(TuneParams, Cursor),
     Refused(WireError),

@@ -22,7 +22,7 @@ use tables::tape::RECORD_WORDS;
 use types::{Cursor, ReadSpan, WireError};
 
 // How many tape records something has, and the cursor after it.
-#[derive(Drop)]
+#[derive(Clone, Copy)]
 pub enum ReadRecords {
     Value(usize, Cursor),
     Refused(WireError),

@@ -20,7 +20,7 @@ use types::WireError;
 use writers::{Written, write_u32};
 
 // How many octets a table's body has. More than 0x2_0000_0000 count as that many.
-#[derive(Drop)]
+#[derive(Clone, Copy)]
 pub enum TableSize {
     Octets(usize),
     Refused(WireError),

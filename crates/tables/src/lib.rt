@@ -33,7 +33,7 @@ pub struct TapeRecord {
     pub beneath: usize,
 }
 
-#[derive(Drop)]
+#[derive(Clone, Copy)]
 pub enum ReadRecord {
     Value(TapeRecord),
     Refused(WireError),

@@ -23,7 +23,7 @@ pub enum WireError {
 }
 
 // A refusal by its number, and as many values as it has; the others are 0.
-#[derive(Drop)]
+#[derive(Clone, Copy)]
 pub struct Numbered {
     pub number: u8,
     pub count: u8,
@@ -32,7 +32,7 @@ pub struct Numbered {
 }
 
 // A position in lent octets, by value: it goes in, and the next one comes out with the answer.
-#[derive(Drop)]
+#[derive(Clone, Copy)]
 pub struct Cursor {
     pub at: usize,
 }
@@ -44,77 +44,77 @@ pub struct Span {
     pub len: usize,
 }
 
-#[derive(Drop)]
+#[derive(Clone, Copy)]
 pub enum ReadU8 {
     Value(u8, Cursor),
     Refused(WireError),
 }
 
-#[derive(Drop)]
+#[derive(Clone, Copy)]
 pub enum ReadU16 {
     Value(u16, Cursor),
     Refused(WireError),
 }
 
-#[derive(Drop)]
+#[derive(Clone, Copy)]
 pub enum ReadU32 {
     Value(u32, Cursor),
     Refused(WireError),
 }
 
-#[derive(Drop)]
+#[derive(Clone, Copy)]
 pub enum ReadU64 {
     Value(u64, Cursor),
     Refused(WireError),
 }
 
-#[derive(Drop)]
+#[derive(Clone, Copy)]
 pub enum ReadI8 {
     Value(i8, Cursor),
     Refused(WireError),
 }
 
-#[derive(Drop)]
+#[derive(Clone, Copy)]
 pub enum ReadI16 {
     Value(i16, Cursor),
     Refused(WireError),
 }
 
-#[derive(Drop)]
+#[derive(Clone, Copy)]
 pub enum ReadI32 {
     Value(i32, Cursor),
     Refused(WireError),
 }
 
-#[derive(Drop)]
+#[derive(Clone, Copy)]
 pub enum ReadI64 {
     Value(i64, Cursor),
     Refused(WireError),
 }
 
 // A float, or the bits of a NaN: the language knows one NaN, so no float keeps a NaN's bits.
-#[derive(Drop)]
+#[derive(Clone, Copy)]
 pub enum ReadF32 {
     Value(f32, Cursor),
     Nan(u32, Cursor),
     Refused(WireError),
 }
 
-#[derive(Drop)]
+#[derive(Clone, Copy)]
 pub enum ReadF64 {
     Value(f64, Cursor),
     Nan(u64, Cursor),
     Refused(WireError),
 }
 
-#[derive(Drop)]
+#[derive(Clone, Copy)]
 pub enum ReadSpan {
     Value(Span, Cursor),
     Refused(WireError),
 }
 
 // What is passed over has no value.
-#[derive(Drop)]
+#[derive(Clone, Copy)]
 pub enum Skipped {
     Next(Cursor),
     Refused(WireError),

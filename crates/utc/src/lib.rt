@@ -6,7 +6,7 @@ ghost use Rattle.utc.specs.Calendar.{leap_year, days_of_year, days_of_month, Sho
 ghost use Rattle.utc.specs.Parts.{YearOf, MonthOf};
 
 // A moment in UTC by the Gregorian calendar.
-#[derive(Drop)]
+#[derive(Clone, Copy)]
 pub struct DateTime {
     pub year: u64,
     pub month: u8,

@@ -6,7 +6,7 @@ ghost use Rattle.utf8.specs.Utf8.{none, fault, followers};
 ghost use Rattle.utf8.specs.AnswerOf.{Ascii, answer_of_lead, answer_of_scan};
 
 // All octets are characters, or the place of the first ill-formed one.
-#[derive(Drop)]
+#[derive(Clone, Copy)]
 pub enum Scan {
     WellFormed,
     IllFormed(usize),

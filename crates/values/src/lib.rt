@@ -12,7 +12,7 @@ use bits::{
 use types::Span;
 
 // A leaf value of a field table: everything but a table and an array. A NaN has a case of its own, with its bits.
-#[derive(Drop)]
+#[derive(Clone, Copy)]
 pub enum FieldValue {
     Bool(bool),
     I8(i8),
@@ -34,7 +34,7 @@ pub enum FieldValue {
 }
 
 // What the tape has for a leaf value: its letter and its two payload words.
-#[derive(Drop)]
+#[derive(Clone, Copy)]
 pub struct LeafWords {
     pub letter: u8,
     pub first: u64,
@@ -42,7 +42,7 @@ pub struct LeafWords {
 }
 
 // The leaf value that some words stand for, if they stand for one.
-#[derive(Drop)]
+#[derive(Clone, Copy)]
 pub enum LeafValue {
     Value(FieldValue),
     None,

@@ -14,7 +14,7 @@ use types::WireError;
 use utf8::Scan;
 
 // The position behind what was written.
-#[derive(Drop)]
+#[derive(Clone, Copy)]
 pub enum Written {
     Next(usize),
     Refused(WireError),
