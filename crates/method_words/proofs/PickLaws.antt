@@ -33,6 +33,9 @@ next-missing take words rest weight h = rw (leb_no weight rest.flags h)
 pub rest-place : (r rest : Rest) (weight width m : ℕ) → r ≡ rest_of rest weight width → rest.j ≤ m → r.j ≤ m + width
 rest-place r rest weight width m e h = rw e (decide (leb weight rest.flags) (λ b. rw b (omega arith)) (λ b. rw b (omega arith)))
 
+pub rest-step : (r rest : Rest) (weight width : ℕ) → r ≡ rest_of rest weight width → r.j ≤ rest.j + width
+rest-step r rest weight width e = rest-place r rest weight width rest.j e (omega arith)
+
 pub first_word : (words : List ℕ) (j : ℕ) → get_or words j 0 ≡ get_or (drop j words) 0 0
 first_word words j = sym (get_or-drop j words 0 0 ∙ ap (λ (i : ℕ). get_or words i 0) (add-zero j))
 
