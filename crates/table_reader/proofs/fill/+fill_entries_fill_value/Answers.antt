@@ -3,7 +3,6 @@
 use mathlib.Core.Bool.{Bool}
 use mathlib.Core.Path.{◌≡◌, sym, ap, ◌∙◌}
 use native.Mathlib.Omega.{arith}
-use borrow.Enum.Refused.{opened}
 use lib.ListN.{get_or}
 use Rattle.types.specs.Answer.{given}
 use Rattle.types.specs.Strings.{long_str_at}
@@ -13,8 +12,27 @@ use Rattle.tables.specs.AnswerOf.{answer_of_kind}
 use Rattle.table_reader.specs.Filling.{leaf_of, payload_of}
 use Rattle.table_reader.proofs.FillLaws.{body-inside, entries_fit, entries-stored, no-entries, at-end, step-name, step_value, step_less, step-again}
 use Rattle.table_reader.proofs.FillLaws.{no-container, Ready, letter-in, body-depth, body-fits, body-stored, leaf-stored}
-use Prim.Native.Nat.{◌+◌}
+use Prim.Native.Nat.{ℕ, ◌+◌}
 use Rattle.table_reader.proofs.fill.+fill_entries_fill_value.Goals as goal
+use Rattle.table_reader.proofs.fill.+fill_entries_fill_value.Goals.{fill_value-After-shared_slice_known-2-1, fill_value-In-Container, fill_value-In-Value, fill_value-In_default}
+use borrow.Enum.Refused.{opened}
+
+-- what `fill_value` knows at its places
+ready : (t : ℕ) (c : fill_value-After-shared_slice_known-2-1 t) → let a = c.args in Ready errata a.levels a.s.now a.at a.name a.k a.tape.now
+ready t c =
+    record { fits = c.requires }
+
+kind : (t : ℕ) (c : fill_value-In-Container t) → let a = c.args in kind_of errata (get_or a.s.now a.at 0) ≡ container c.in-Container.named
+kind t c =
+    sym c.kind_of-kind.ensures ∙ ap answer_of_kind c.in-Container.is
+
+is_leaf : (t : ℕ) (c : fill_value-In_default t) → let a = c.args in (b : Bool) → kind_of errata (get_or a.s.now a.at 0) ≡ container b → ⊥
+is_leaf t c b e =
+    no-container c.kind_of-kind.result (opened c.in_default.in_default-own.keys2) b (c.kind_of-kind.ensures ∙ e)
+
+length-read : (t : ℕ) (c : fill_value-In-Value t) → let a = c.args in long_str_at a.s.now (a.at + 1) ≡ given c.in-Value.body c.in-Value.after.at
+length-read t c =
+    sym c.long_str.ensures ∙ ap answer_of_span c.in-Value.is
 
 pub fill_entries-name_at-name-requires : goal.fill_entries-name_at-name-requires
 fill_entries-name_at-name-requires t c =
@@ -46,44 +64,30 @@ fill_value-bounds-s-at t c =
 
 pub fill_value-overflow_add-at : goal.fill_value-overflow_add-at
 fill_value-overflow_add-at t c =
-    let ready : let a = c.args in Ready errata a.levels a.s.now a.at a.name a.k a.tape.now = record { fits = c.requires } in
-    omega (arith, letter-in (ready))
+    omega (arith, letter-in (ready t (goal.at.fill_value-overflow_add-at t c).After-shared_slice_known-2-1))
 
 pub fill_value-overflow_sub-levels : goal.fill_value-overflow_sub-levels
 fill_value-overflow_sub-levels t c =
-    let ready : let a = c.args in Ready errata a.levels a.s.now a.at a.name a.k a.tape.now = record { fits = c.requires } in
-    let kind : let a = c.args in kind_of errata (get_or a.s.now a.at 0) ≡ container c.in-Container.named = sym c.kind_of-kind.ensures ∙ ap answer_of_kind c.in-Container.is in
-    body-depth (ready) _ (kind)
+    body-depth (ready t (goal.at.fill_value-overflow_sub-levels t c).After-shared_slice_known-2-1) _ (kind t (goal.at.fill_value-overflow_sub-levels t c).In-Container)
 
 pub fill_value-fill_entries-r-requires : goal.fill_value-fill_entries-r-requires
 fill_value-fill_entries-r-requires t c =
-    let ready : let a = c.args in Ready errata a.levels a.s.now a.at a.name a.k a.tape.now = record { fits = c.requires } in
-    let kind : let a = c.args in kind_of errata (get_or a.s.now a.at 0) ≡ container c.in-Container.named = sym c.kind_of-kind.ensures ∙ ap answer_of_kind c.in-Container.is in
-    let length-read : let a = c.args in long_str_at a.s.now (a.at + 1) ≡ given c.in-Value.body c.in-Value.after.at = sym c.long_str.ensures ∙ ap answer_of_span c.in-Value.is in
-    (omega (arith, body-depth (ready) _ (kind), c.decreases), (body-inside _ _ _ _ (length-read), entries_fit _ _ _ _ _ _ _ (length-read) _ _ (body-fits (ready) _ (kind))))
+    (omega (arith, body-depth (ready t (goal.at.fill_value-fill_entries-r-requires t c).After-shared_slice_known-2-1) _ (kind t (goal.at.fill_value-fill_entries-r-requires t c).In-Container), c.decreases), (body-inside _ _ _ _ (length-read t (goal.at.fill_value-fill_entries-r-requires t c).In-Value), entries_fit _ _ _ _ _ _ _ (length-read t (goal.at.fill_value-fill_entries-r-requires t c).In-Value) _ _ (body-fits (ready t (goal.at.fill_value-fill_entries-r-requires t c).After-shared_slice_known-2-1) _ (kind t (goal.at.fill_value-fill_entries-r-requires t c).In-Container))))
 
 pub fill_value-overflow_add-at-in_default : goal.fill_value-overflow_add-at-in_default
 fill_value-overflow_add-at-in_default t c =
-    let ready : let a = c.args in Ready errata a.levels a.s.now a.at a.name a.k a.tape.now = record { fits = c.requires } in
-    omega (arith, letter-in (ready))
+    omega (arith, letter-in (ready t (goal.at.fill_value-overflow_add-at-in_default t c).After-shared_slice_known-2-1))
 
 pub fill_value-returns-in-Refused : goal.fill_value-returns-in-Refused
 fill_value-returns-in-Refused t c =
-    let ready : let a = c.args in Ready errata a.levels a.s.now a.at a.name a.k a.tape.now = record { fits = c.requires } in
-    let kind : let a = c.args in kind_of errata (get_or a.s.now a.at 0) ≡ container c.in-Container.named = sym c.kind_of-kind.ensures ∙ ap answer_of_kind c.in-Container.is in
-    absurd (no-entries _ _ _ _ _ _ _ (sym c.long_str.ensures ∙ ap answer_of_span c.in-Refused.is) (body-fits (ready) _ (kind)))
+    absurd (no-entries _ _ _ _ _ _ _ (sym c.long_str.ensures ∙ ap answer_of_span c.in-Refused.is) (body-fits (ready t (goal.at.fill_value-returns-in-Refused t c).After-shared_slice_known-2-1) _ (kind t (goal.at.fill_value-returns-in-Refused t c).In-Container)))
 
 pub fill_value-returns-in-Value : goal.fill_value-returns-in-Value
 fill_value-returns-in-Value t c =
-    let ready : let a = c.args in Ready errata a.levels a.s.now a.at a.name a.k a.tape.now = record { fits = c.requires } in
-    let kind : let a = c.args in kind_of errata (get_or a.s.now a.at 0) ≡ container c.in-Container.named = sym c.kind_of-kind.ensures ∙ ap answer_of_kind c.in-Container.is in
-    let length-read : let a = c.args in long_str_at a.s.now (a.at + 1) ≡ given c.in-Value.body c.in-Value.after.at = sym c.long_str.ensures ∙ ap answer_of_span c.in-Value.is in
-    body-stored (ready) _ (kind) c.fill_entries-r.new.tape c.fill_entries-r.result (entries-stored _ _ _ _ _ _ _ (length-read) _ _ c.fill_entries-r.new.tape c.fill_entries-r.result c.fill_entries-r.ensures) c.put_record.new.tape c.put_record.ensures
+    body-stored (ready t (goal.at.fill_value-returns-in-Value t c).After-shared_slice_known-2-1) _ (kind t (goal.at.fill_value-returns-in-Value t c).In-Container) c.fill_entries-r.new.tape c.fill_entries-r.result (entries-stored _ _ _ _ _ _ _ (length-read t (goal.at.fill_value-returns-in-Value t c).In-Value) _ _ c.fill_entries-r.new.tape c.fill_entries-r.result c.fill_entries-r.ensures) c.put_record.new.tape c.put_record.ensures
 
 pub fill_value-returns-in_default : goal.fill_value-returns-in_default
 fill_value-returns-in_default t c =
-    let ready : let a = c.args in Ready errata a.levels a.s.now a.at a.name a.k a.tape.now = record { fits = c.requires } in
-    let is_leaf : let a = c.args in (b : Bool) → kind_of errata (get_or a.s.now a.at 0) ≡ container b → ⊥ = λ b e. no-container c.kind_of-kind.result (opened c.in_default.in_default-own.keys2) b (c.kind_of-kind.ensures ∙ e) in
     let a = c.args in
-    leaf-stored (ready) (is_leaf) c.leaf_at-leaf.result c.put_record-in_default.new.tape
+    leaf-stored (ready t (goal.at.fill_value-returns-in_default t c).After-shared_slice_known-2-1) (is_leaf t (goal.at.fill_value-returns-in_default t c).In_default) c.leaf_at-leaf.result c.put_record-in_default.new.tape
     (c.leaf_at-leaf.ensures ∙ ap (λ k. leaf_of (a.at + 1) (payload_of k a.s.now (a.at + 1))) c.kind_of-kind.ensures) c.put_record-in_default.ensures

@@ -1,8 +1,8 @@
 -- The proof of the cycle of calls {emit_records, emit_value}. The measure is twice the levels that are left, and one more for the records. The
 -- loop's invariant: what is left to write, written, writes the whole; its measure is the records that are left. Assumes nothing.
+use Prim.Native.Nat.{ℕ}
 use mathlib.Core.Path.{sym, ap, ◌∙◌}
 use native.Mathlib.Omega.{arith}
-use borrow.Enum.Refused.{opened}
 use Rattle.tables.specs.Letters.{errata}
 use Rattle.tables.specs.AnswerOf.{answer_of_kind, record_of}
 use Rattle.tables.proofs.JudgeLaws.{Octets}
@@ -12,9 +12,34 @@ use Rattle.table_writer.proofs.EmitSteps.{was_read, not-refused, beneath_of, pay
 use Rattle.table_writer.proofs.EmitSteps.{Body, body_of, body-count, body-emitted, leaf-ready, leaf-emitted}
 use Rattle.table_writer.proofs.EmitSteps.{at-end, turn-ready, turn_inside, turn-again}
 use Rattle.table_writer.proofs.emit.+emit_records_emit_value.Goals as goal
+use Rattle.table_writer.proofs.emit.+emit_records_emit_value.Goals.{emit_value-After-next_of-payload, emit_value-In-Container}
+use borrow.Enum.Refused.{opened}
 
 errata-octets : Octets errata
 errata-octets = omega arith
+
+-- its payload, when its name and its letter are written
+value-left : (t : ℕ) (c : emit_value-After-next_of-payload t) → let a = c.args in let r = record_of c.in-Value.r in Left (payload_of errata a.pool.now r (beneath_of a.tape.now a.i r)) (first_octets errata a.named a.pool.now (records_from a.tape.now a.i a.end)) a.at a.out.now c.next_of-payload.result c.write_u8.new.out
+value-left t c =
+    let value-here : let a = c.args in Here errata a.named a.pool.now a.levels a.i a.end a.tape.now a.at a.out.now (record_of c.in-Value.r) = let a = c.args in
+    let r = c.in-Value.r in
+    here errata a.named a.pool.now a.levels a.i a.end a.tape.now a.at a.out.now (record_of r)
+    (was_read a.tape.now a.i a.end c.record_at.result r c.requires.0 c.requires.1.on_tape c.record_at.ensures c.in-Value.is) c.requires.0 c.requires.1 in
+    let x = value-here in
+    left x c.emit_name-here.ensures
+    (number-emitted 1 c.in-Value.r.letter (letter-space x c.emit_name-here.ensures) c.write_u8.ensures c.next_of-payload.ensures)
+
+-- the payload of a table or an array
+value-body : (t : ℕ) (c : emit_value-In-Container t) → let a = c.args in Body errata a.pool.now a.levels a.i a.tape.now (record_of c.in-Value.r) c.in-Container.inner (first_octets errata a.named a.pool.now (records_from a.tape.now a.i a.end)) a.at a.out.now c.next_of-payload.result c.write_u8.new.out
+value-body t c =
+    let value-here : let a = c.args in Here errata a.named a.pool.now a.levels a.i a.end a.tape.now a.at a.out.now (record_of c.in-Value.r) = let a = c.args in
+    let r = c.in-Value.r in
+    here errata a.named a.pool.now a.levels a.i a.end a.tape.now a.at a.out.now (record_of r)
+    (was_read a.tape.now a.i a.end c.record_at.result r c.requires.0 c.requires.1.on_tape c.record_at.ensures c.in-Value.is) c.requires.0 c.requires.1 in
+    let value-left : let a = c.args in let r = record_of c.in-Value.r in Left (payload_of errata a.pool.now r (beneath_of a.tape.now a.i r)) (first_octets errata a.named a.pool.now (records_from a.tape.now a.i a.end)) a.at a.out.now c.next_of-payload.result c.write_u8.new.out = let x = value-here in
+    left x c.emit_name-here.ensures
+    (number-emitted 1 c.in-Value.r.letter (letter-space x c.emit_name-here.ensures) c.write_u8.ensures c.next_of-payload.ensures) in
+    body_of (value-here) (value-left) _ (sym c.kind_of-kind.ensures ∙ ap answer_of_kind c.in-Container.is)
 
 pub emit_records-emit_value-here-requires : goal.emit_records-emit_value-here-requires
 emit_records-emit_value-here-requires t c =
@@ -51,15 +76,7 @@ emit_value-emit_name-here-requires t c =
 
 pub emit_value-overflow_add-start : goal.emit_value-overflow_add-start
 emit_value-overflow_add-start t c =
-    let value-here : let a = c.args in Here errata a.named a.pool.now a.levels a.i a.end a.tape.now a.at a.out.now (record_of c.in-Value.r) = let a = c.args in
-    let r = c.in-Value.r in
-    here errata a.named a.pool.now a.levels a.i a.end a.tape.now a.at a.out.now (record_of r)
-    (was_read a.tape.now a.i a.end c.record_at.result r c.requires.0 c.requires.1.on_tape c.record_at.ensures c.in-Value.is) c.requires.0 c.requires.1 in
-    let value-left : let a = c.args in let r = record_of c.in-Value.r in Left (payload_of errata a.pool.now r (beneath_of a.tape.now a.i r)) (first_octets errata a.named a.pool.now (records_from a.tape.now a.i a.end)) a.at a.out.now c.next_of-payload.result c.write_u8.new.out = let x = value-here in
-    left x c.emit_name-here.ensures
-    (number-emitted 1 c.in-Value.r.letter (letter-space x c.emit_name-here.ensures) c.write_u8.ensures c.next_of-payload.ensures) in
-    let value-body : let a = c.args in Body errata a.pool.now a.levels a.i a.tape.now (record_of c.in-Value.r) c.in-Container.inner (first_octets errata a.named a.pool.now (records_from a.tape.now a.i a.end)) a.at a.out.now c.next_of-payload.result c.write_u8.new.out = body_of (value-here) (value-left) _ (sym c.kind_of-kind.ensures ∙ ap answer_of_kind c.in-Container.is) in
-    omega (arith, (value-body).space, c.write_u8.auto.out, c.emit_name-here.auto.out, c.well_formed.1.1.1.1.1.1.0)
+    omega (arith, (value-body t (goal.at.emit_value-overflow_add-start t c).In-Container).space, c.write_u8.auto.out, c.emit_name-here.auto.out, c.well_formed.1.1.1.1.1.1.0)
 
 pub emit_value-overflow_add-first-in-Container : goal.emit_value-overflow_add-first-in-Container
 emit_value-overflow_add-first-in-Container t c =
@@ -72,41 +89,17 @@ emit_value-overflow_add-first-in-Container t c =
 
 pub emit_value-overflow_sub-levels : goal.emit_value-overflow_sub-levels
 emit_value-overflow_sub-levels t c =
-    let value-here : let a = c.args in Here errata a.named a.pool.now a.levels a.i a.end a.tape.now a.at a.out.now (record_of c.in-Value.r) = let a = c.args in
-    let r = c.in-Value.r in
-    here errata a.named a.pool.now a.levels a.i a.end a.tape.now a.at a.out.now (record_of r)
-    (was_read a.tape.now a.i a.end c.record_at.result r c.requires.0 c.requires.1.on_tape c.record_at.ensures c.in-Value.is) c.requires.0 c.requires.1 in
-    let value-left : let a = c.args in let r = record_of c.in-Value.r in Left (payload_of errata a.pool.now r (beneath_of a.tape.now a.i r)) (first_octets errata a.named a.pool.now (records_from a.tape.now a.i a.end)) a.at a.out.now c.next_of-payload.result c.write_u8.new.out = let x = value-here in
-    left x c.emit_name-here.ensures
-    (number-emitted 1 c.in-Value.r.letter (letter-space x c.emit_name-here.ensures) c.write_u8.ensures c.next_of-payload.ensures) in
-    let value-body : let a = c.args in Body errata a.pool.now a.levels a.i a.tape.now (record_of c.in-Value.r) c.in-Container.inner (first_octets errata a.named a.pool.now (records_from a.tape.now a.i a.end)) a.at a.out.now c.next_of-payload.result c.write_u8.new.out = body_of (value-here) (value-left) _ (sym c.kind_of-kind.ensures ∙ ap answer_of_kind c.in-Container.is) in
-    (value-body).level
+    (value-body t (goal.at.emit_value-overflow_sub-levels t c).In-Container).level
 
 pub emit_value-emit_records-next-requires : goal.emit_value-emit_records-next-requires
 emit_value-emit_records-next-requires t c =
-    let value-here : let a = c.args in Here errata a.named a.pool.now a.levels a.i a.end a.tape.now a.at a.out.now (record_of c.in-Value.r) = let a = c.args in
-    let r = c.in-Value.r in
-    here errata a.named a.pool.now a.levels a.i a.end a.tape.now a.at a.out.now (record_of r)
-    (was_read a.tape.now a.i a.end c.record_at.result r c.requires.0 c.requires.1.on_tape c.record_at.ensures c.in-Value.is) c.requires.0 c.requires.1 in
-    let value-left : let a = c.args in let r = record_of c.in-Value.r in Left (payload_of errata a.pool.now r (beneath_of a.tape.now a.i r)) (first_octets errata a.named a.pool.now (records_from a.tape.now a.i a.end)) a.at a.out.now c.next_of-payload.result c.write_u8.new.out = let x = value-here in
-    left x c.emit_name-here.ensures
-    (number-emitted 1 c.in-Value.r.letter (letter-space x c.emit_name-here.ensures) c.write_u8.ensures c.next_of-payload.ensures) in
-    let value-body : let a = c.args in Body errata a.pool.now a.levels a.i a.tape.now (record_of c.in-Value.r) c.in-Container.inner (first_octets errata a.named a.pool.now (records_from a.tape.now a.i a.end)) a.at a.out.now c.next_of-payload.result c.write_u8.new.out = body_of (value-here) (value-left) _ (sym c.kind_of-kind.ensures ∙ ap answer_of_kind c.in-Container.is) in
-    let b = value-body in
+    let b = value-body t (goal.at.emit_value-emit_records-next-requires t c).In-Container in
     let m = c.decreases in
     (omega (arith, b.level, m), (omega arith, b.ready))
 
 pub emit_value-overflow_cast-next : goal.emit_value-overflow_cast-next
 emit_value-overflow_cast-next t c =
-    let value-here : let a = c.args in Here errata a.named a.pool.now a.levels a.i a.end a.tape.now a.at a.out.now (record_of c.in-Value.r) = let a = c.args in
-    let r = c.in-Value.r in
-    here errata a.named a.pool.now a.levels a.i a.end a.tape.now a.at a.out.now (record_of r)
-    (was_read a.tape.now a.i a.end c.record_at.result r c.requires.0 c.requires.1.on_tape c.record_at.ensures c.in-Value.is) c.requires.0 c.requires.1 in
-    let value-left : let a = c.args in let r = record_of c.in-Value.r in Left (payload_of errata a.pool.now r (beneath_of a.tape.now a.i r)) (first_octets errata a.named a.pool.now (records_from a.tape.now a.i a.end)) a.at a.out.now c.next_of-payload.result c.write_u8.new.out = let x = value-here in
-    left x c.emit_name-here.ensures
-    (number-emitted 1 c.in-Value.r.letter (letter-space x c.emit_name-here.ensures) c.write_u8.ensures c.next_of-payload.ensures) in
-    let value-body : let a = c.args in Body errata a.pool.now a.levels a.i a.tape.now (record_of c.in-Value.r) c.in-Container.inner (first_octets errata a.named a.pool.now (records_from a.tape.now a.i a.end)) a.at a.out.now c.next_of-payload.result c.write_u8.new.out = body_of (value-here) (value-left) _ (sym c.kind_of-kind.ensures ∙ ap answer_of_kind c.in-Container.is) in
-    omega (arith, (body-count (value-body) c.emit_records-next.ensures).1)
+    omega (arith, (body-count (value-body t (goal.at.emit_value-overflow_cast-next t c).In-Container) c.emit_records-next.ensures).1)
 
 pub emit_value-emit_leaf-requires : goal.emit_value-emit_leaf-requires
 emit_value-emit_leaf-requires t c =
@@ -114,11 +107,8 @@ emit_value-emit_leaf-requires t c =
     let r = c.in-Value.r in
     here errata a.named a.pool.now a.levels a.i a.end a.tape.now a.at a.out.now (record_of r)
     (was_read a.tape.now a.i a.end c.record_at.result r c.requires.0 c.requires.1.on_tape c.record_at.ensures c.in-Value.is) c.requires.0 c.requires.1 in
-    let value-left : let a = c.args in let r = record_of c.in-Value.r in Left (payload_of errata a.pool.now r (beneath_of a.tape.now a.i r)) (first_octets errata a.named a.pool.now (records_from a.tape.now a.i a.end)) a.at a.out.now c.next_of-payload.result c.write_u8.new.out = let x = value-here in
-    left x c.emit_name-here.ensures
-    (number-emitted 1 c.in-Value.r.letter (letter-space x c.emit_name-here.ensures) c.write_u8.ensures c.next_of-payload.ensures) in
     let x = value-here in
-    leaf-ready x (value-left) c.kind_of-kind.result c.kind_of-kind.ensures (opened c.in_default.in_default-own.keys2)
+    leaf-ready x (value-left t (goal.at.emit_value-emit_leaf-requires t c).After-next_of-payload) c.kind_of-kind.result c.kind_of-kind.ensures (opened c.in_default.in_default-own.keys2)
 
 pub emit_value-returns-in-Refused : goal.emit_value-returns-in-Refused
 emit_value-returns-in-Refused t c =
@@ -127,15 +117,7 @@ emit_value-returns-in-Refused t c =
 
 pub emit_value-returns-in-Container : goal.emit_value-returns-in-Container
 emit_value-returns-in-Container t c =
-    let value-here : let a = c.args in Here errata a.named a.pool.now a.levels a.i a.end a.tape.now a.at a.out.now (record_of c.in-Value.r) = let a = c.args in
-    let r = c.in-Value.r in
-    here errata a.named a.pool.now a.levels a.i a.end a.tape.now a.at a.out.now (record_of r)
-    (was_read a.tape.now a.i a.end c.record_at.result r c.requires.0 c.requires.1.on_tape c.record_at.ensures c.in-Value.is) c.requires.0 c.requires.1 in
-    let value-left : let a = c.args in let r = record_of c.in-Value.r in Left (payload_of errata a.pool.now r (beneath_of a.tape.now a.i r)) (first_octets errata a.named a.pool.now (records_from a.tape.now a.i a.end)) a.at a.out.now c.next_of-payload.result c.write_u8.new.out = let x = value-here in
-    left x c.emit_name-here.ensures
-    (number-emitted 1 c.in-Value.r.letter (letter-space x c.emit_name-here.ensures) c.write_u8.ensures c.next_of-payload.ensures) in
-    let value-body : let a = c.args in Body errata a.pool.now a.levels a.i a.tape.now (record_of c.in-Value.r) c.in-Container.inner (first_octets errata a.named a.pool.now (records_from a.tape.now a.i a.end)) a.at a.out.now c.next_of-payload.result c.write_u8.new.out = body_of (value-here) (value-left) _ (sym c.kind_of-kind.ensures ∙ ap answer_of_kind c.in-Container.is) in
-    body-emitted (value-body) c.emit_records-next.ensures c.write_u32.ensures
+    body-emitted (value-body t (goal.at.emit_value-returns-in-Container t c).In-Container) c.emit_records-next.ensures c.write_u32.ensures
 
 pub emit_value-returns-in_default : goal.emit_value-returns-in_default
 emit_value-returns-in_default t c =
@@ -143,8 +125,5 @@ emit_value-returns-in_default t c =
     let r = c.in-Value.r in
     here errata a.named a.pool.now a.levels a.i a.end a.tape.now a.at a.out.now (record_of r)
     (was_read a.tape.now a.i a.end c.record_at.result r c.requires.0 c.requires.1.on_tape c.record_at.ensures c.in-Value.is) c.requires.0 c.requires.1 in
-    let value-left : let a = c.args in let r = record_of c.in-Value.r in Left (payload_of errata a.pool.now r (beneath_of a.tape.now a.i r)) (first_octets errata a.named a.pool.now (records_from a.tape.now a.i a.end)) a.at a.out.now c.next_of-payload.result c.write_u8.new.out = let x = value-here in
-    left x c.emit_name-here.ensures
-    (number-emitted 1 c.in-Value.r.letter (letter-space x c.emit_name-here.ensures) c.write_u8.ensures c.next_of-payload.ensures) in
     let x = value-here in
-    leaf-emitted x (value-left) c.kind_of-kind.result c.kind_of-kind.ensures (opened c.in_default.in_default-own.keys2) c.emit_leaf.ensures
+    leaf-emitted x (value-left t (goal.at.emit_value-returns-in_default t c).After-next_of-payload) c.kind_of-kind.result c.kind_of-kind.ensures (opened c.in_default.in_default-own.keys2) c.emit_leaf.ensures

@@ -2,13 +2,19 @@
 -- the answer from its start on is the answer from here on, with the size so far. Assumes nothing.
 use mathlib.Core.Path.{◌≡◌, sym, ap, ◌∙◌}
 use mathlib.Core.Logic.{inl}
-use Prim.Native.Nat.{◌+◌, ◌-◌}
+use Prim.Native.Nat.{ℕ, ◌+◌, ◌-◌}
 use native.Mathlib.Omega.{arith}
 use Rattle.tables.specs.Letters.{errata, kind_of, is_table}
 use Rattle.tables.specs.AnswerOf.{record_of, answer_of_record}
 use Rattle.table_writer.specs.AnswerOf.{answer_of_octets}
 use Rattle.table_writer.proofs.PassLaws.{record-le, value_from, all_from, value-le, all-le, value-missing, value-refused, Judged, beneath-inside, beneath-level, beneath-refused, beneath-given, nothing-beneath, kept-start, kept-end, kept-refused, turn_inside, kept-turn}
 use Rattle.table_writer.proofs.judge.+judge_records_judge_value.Goals as goal
+use Rattle.table_writer.proofs.judge.+judge_records_judge_value.Goals.{judge_records-In-Size}
+
+-- the answer of a value in the loop
+value : (t : ℕ) (c : judge_records-In-Size t) → let a = c.args in inl c.in-Size.n ≡ value_from errata a.levels a.named a.pool.now a.tape.now a.end c.loop-i.i
+value t c =
+    ap answer_of_octets (sym c.in-Size.is) ∙ c.judge_value.ensures
 
 pub judge_records-loop-i-init : goal.judge_records-loop-i-init
 judge_records-loop-i-init t c =
@@ -21,19 +27,16 @@ judge_records-returns-in-Refused t c =
 
 pub judge_records-overflow_add-size : goal.judge_records-overflow_add-size
 judge_records-overflow_add-size t c =
-    let value : let a = c.args in inl c.in-Size.n ≡ value_from errata a.levels a.named a.pool.now a.tape.now a.end c.loop-i.i = ap answer_of_octets (sym c.in-Size.is) ∙ c.judge_value.ensures in
     let a = c.args in
-    omega (arith, c.loop-i.invariant.small, value-le errata a.levels a.named a.pool.now a.tape.now a.end c.loop-i.i _ (value))
+    omega (arith, c.loop-i.invariant.small, value-le errata a.levels a.named a.pool.now a.tape.now a.end c.loop-i.i _ (value t (goal.at.judge_records-overflow_add-size t c).In-Size))
 
 pub judge_records-overflow_add-i-in-Size-2 : goal.judge_records-overflow_add-i-in-Size-2
 judge_records-overflow_add-i-in-Size-2 t c =
-    let value : let a = c.args in inl c.in-Size.n ≡ value_from errata a.levels a.named a.pool.now a.tape.now a.end c.loop-i.i = ap answer_of_octets (sym c.in-Size.is) ∙ c.judge_value.ensures in
-    omega (arith, turn_inside c.loop-i.invariant (omega arith) c.loop-i-test.true _ (value))
+    omega (arith, turn_inside c.loop-i.invariant (omega arith) c.loop-i-test.true _ (value t (goal.at.judge_records-overflow_add-i-in-Size-2 t c).In-Size))
 
 pub judge_records-loop-i-preserved : goal.judge_records-loop-i-preserved
 judge_records-loop-i-preserved t c =
-    let value : let a = c.args in inl c.in-Size.n ≡ value_from errata a.levels a.named a.pool.now a.tape.now a.end c.loop-i.i = ap answer_of_octets (sym c.in-Size.is) ∙ c.judge_value.ensures in
-    rw c.capped_size-size.ensures (kept-turn c.loop-i.invariant (omega arith) c.loop-i-test.true _ (value))
+    rw c.capped_size-size.ensures (kept-turn c.loop-i.invariant (omega arith) c.loop-i-test.true _ (value t (goal.at.judge_records-loop-i-preserved t c).In-Size))
 
 pub judge_records-returns : goal.judge_records-returns
 judge_records-returns t c =
