@@ -3,11 +3,15 @@ use native.Mathlib.Omega.{arith}
 use Rattle.tables.specs.Reading.{name_at}
 use Rattle.table_reader.proofs.FillLaws.{Named, name-there}
 use Rattle.table_reader.proofs.fill.name_at.Goals as goal
+use Rattle.table_reader.proofs.fill.name_at.Goals.{After-shared_slice_known-1-unread}
+
+named : (c : After-shared_slice_known-1-unread) → Named c.args.s.now c.args.at
+named c =
+    name-there _ _ (rw c.if-named.true at c.requires)
 
 pub bounds-s-at : goal.bounds-s-at
 bounds-s-at c =
-    let named : Named c.args.s.now c.args.at = name-there _ _ (rw c.if-named.true at c.requires) in
-    omega (arith, (named).within)
+    omega (arith, (named (goal.at.bounds-s-at c).After-shared_slice_known-1-unread).within)
 
 pub overflow_add-result : goal.overflow_add-result
 overflow_add-result c =

@@ -12,11 +12,19 @@ use Rattle.table_writer.proofs.EmitSteps.{was_read, not-refused, beneath_of, pay
 use Rattle.table_writer.proofs.EmitSteps.{Body, body_of, body-count, body-emitted, leaf-ready, leaf-emitted}
 use Rattle.table_writer.proofs.EmitSteps.{at-end, turn-ready, turn_inside, turn-again}
 use Rattle.table_writer.proofs.emit.+emit_records_emit_value.Goals as goal
-use Rattle.table_writer.proofs.emit.+emit_records_emit_value.Goals.{emit_value-After-next_of-payload, emit_value-In-Container}
+use Rattle.table_writer.proofs.emit.+emit_records_emit_value.Goals.{emit_value-After-next_of-payload, emit_value-After-struct_known-1, emit_value-In-Container}
 use borrow.Enum.Refused.{opened}
 
 errata-octets : Octets errata
 errata-octets = omega arith
+
+-- the record that `emit_value` writes
+value-here : (t : ℕ) (c : emit_value-After-struct_known-1 t) → let a = c.args in Here errata a.named a.pool.now a.levels a.i a.end a.tape.now a.at a.out.now (record_of c.in-Value.r)
+value-here t c =
+    let a = c.args in
+    let r = c.in-Value.r in
+    here errata a.named a.pool.now a.levels a.i a.end a.tape.now a.at a.out.now (record_of r)
+    (was_read a.tape.now a.i a.end c.record_at.result r c.requires.0 c.requires.1.on_tape c.record_at.ensures c.in-Value.is) c.requires.0 c.requires.1
 
 -- its payload, when its name and its letter are written
 value-left : (t : ℕ) (c : emit_value-After-next_of-payload t) → let a = c.args in let r = record_of c.in-Value.r in Left (payload_of errata a.pool.now r (beneath_of a.tape.now a.i r)) (first_octets errata a.named a.pool.now (records_from a.tape.now a.i a.end)) a.at a.out.now c.next_of-payload.result c.write_u8.new.out
@@ -60,11 +68,7 @@ emit_records-returns t c =
 
 pub emit_value-overflow_cast-letter : goal.emit_value-overflow_cast-letter
 emit_value-overflow_cast-letter t c =
-    let value-here : let a = c.args in Here errata a.named a.pool.now a.levels a.i a.end a.tape.now a.at a.out.now (record_of c.in-Value.r) = let a = c.args in
-    let r = c.in-Value.r in
-    here errata a.named a.pool.now a.levels a.i a.end a.tape.now a.at a.out.now (record_of r)
-    (was_read a.tape.now a.i a.end c.record_at.result r c.requires.0 c.requires.1.on_tape c.record_at.ensures c.in-Value.is) c.requires.0 c.requires.1 in
-    omega (arith, letter-small (value-here) errata-octets)
+    omega (arith, letter-small (value-here t (goal.at.emit_value-overflow_cast-letter t c).After-struct_known-1) errata-octets)
 
 pub emit_value-emit_name-here-requires : goal.emit_value-emit_name-here-requires
 emit_value-emit_name-here-requires t c =
