@@ -15,7 +15,7 @@ use Rattle.frame_reader.specs.declared.Decoded.TheVariants as decoded
 use Rattle.frame_reader.specs.declared.ReadFrame.{ReadFrame}
 use Rattle.frame_reader.specs.declared.ReadFrame.TheVariants as read
 use Rattle.frame_reader.specs.declared.ReadFrameWords.{ReadFrameWords}
-use Rattle.frame_reader.specs.declared.ReadFrameWords.TheVariants as in_words_lem
+use Rattle.frame_reader.specs.declared.ReadFrameWords.TheVariants as by_words
 use Rattle.frame_reader.specs.Words.{FrameWords}
 use Rattle.table_reader.specs.declared.ReadRecords.{ReadRecords}
 use Rattle.table_reader.specs.declared.ReadRecords.TheVariants as records
@@ -38,8 +38,8 @@ answer_of_payload_words (records.Value n next) words = given (record { value = w
 answer_of_payload_words (records.Refused e) words = refused (refusal e)
 
 abbrev pub answer_of_frame_words : ReadFrameWords → List ℕ → Answer (WithCount FrameWords)
-answer_of_frame_words (in_words_lem.Value ch n next) words = given (record { value = record { channel = ch; payload = words }; count = n }) next.at
-answer_of_frame_words (in_words_lem.Refused e) words = refused (refusal e)
+answer_of_frame_words (by_words.Value ch n next) words = given (record { value = record { channel = ch; payload = words }; count = n }) next.at
+answer_of_frame_words (by_words.Refused e) words = refused (refusal e)
 
 abbrev pub stop_refusal : Stop → Option Refusal
 stop_refusal stop.None = none
