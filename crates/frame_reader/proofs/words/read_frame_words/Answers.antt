@@ -8,17 +8,14 @@ use Rattle.frame.proofs.FrameLaws.{decode-read}
 use Rattle.frame_reader.proofs.StepLaws.{step-refused, step-decoded}
 use Rattle.frame_reader.proofs.words.read_frame_words.Goals as goal
 
--- src/words.rt:145:40
 pub read_payload-requires : goal.read_payload-requires
 read_payload-requires c =
     let d = decode-read _ _ _ _ (sym c.decode.ensures ∙ ap answer_of_decoded c.in-Value.is) in omega (arith, d.start, d.past, d.inside)
 
--- src/words.rt:134:1
 pub returns-in-Refused : goal.returns-in-Refused
 returns-in-Refused c =
     let a = c.args in ap (in_words frame_words (λ x. x.payload) a.payload.now) (step-refused errata a.s.now a.at.at a.used a.tape.now (sym (ap answer_of_decoded c.in-Refused.is) ∙ c.decode.ensures))
 
--- src/words.rt:134:1
 pub returns-in-Value : goal.returns-in-Value
 returns-in-Value c =
     let a = c.args in c.read_payload.ensures ∙ ap (in_words frame_words (λ x. x.payload) a.payload.now) (step-decoded errata a.s.now a.at.at a.used a.tape.now (sym (ap answer_of_decoded c.in-Value.is) ∙ c.decode.ensures))

@@ -14,27 +14,22 @@ use Rattle.method_words.specs.Words.{call_of, header_words}
 use Rattle.payload_words.specs.Words.{call_words, content_header_words}
 use Rattle.frame_reader.proofs.words.read_payload.Goals as goal
 
--- src/words.rt:125:17
 pub returns-then-start-end : goal.returns-then-start-end
 returns-then-start-end c =
     let a = c.args in ap (in_words frame_words (λ x. x.payload) a.payload.now) (heartbeat-refused errata a.s.now (frame_of a.frame) a.next.at a.used a.tape.now c.requires (ap type_octet c.in-Heartbeat.is) (omega (arith, c.if-start-end.true)))
 
--- src/words.rt:95:1
 pub returns-in-Method : goal.returns-in-Method
 returns-in-Method c =
     let a = c.args in of-frame (c.frame_of.ensures _) (framed-words (λ x. call_words (call_of x)) (with_command errata a.s.now (frame_of a.frame) a.next.at a.used a.tape.now) a.frame.channel a.next.at a.payload.now (read_command errata (take (a.frame.payload.start + a.frame.payload.len) a.s.now) a.frame.payload.start a.used a.tape.now) (method-read errata a.s.now (frame_of a.frame) a.next.at a.used a.tape.now (ap type_octet c.in-Method.is)) (λ x. refl) c.read_method.ensures)
 
--- src/words.rt:95:1
 pub returns-in-Header : goal.returns-in-Header
 returns-in-Header c =
     let a = c.args in of-frame (c.frame_of-in-Header.ensures _) (framed-words (λ x. content_header_words (header_words x)) (with_header errata a.s.now (frame_of a.frame) a.next.at a.used a.tape.now) a.frame.channel a.next.at a.payload.now (read_header errata (take (a.frame.payload.start + a.frame.payload.len) a.s.now) a.frame.payload.start a.used a.tape.now) (header_read errata a.s.now (frame_of a.frame) a.next.at a.used a.tape.now (ap type_octet c.in-Header.is)) (λ x. refl) c.read_header.ensures)
 
--- src/words.rt:95:1
 pub returns-in-Body : goal.returns-in-Body
 returns-in-Body c =
     let a = c.args in put-framed (record { channel = a.frame.channel; payload = body a.frame.payload }) a.next.at a.payload.now _ _ _ c.body_words.ensures (body-read errata a.s.now (frame_of a.frame) a.next.at a.used a.tape.now c.requires (ap type_octet c.in-Body.is))
 
--- src/words.rt:95:1
 pub returns-else-start-end : goal.returns-else-start-end
 returns-else-start-end c =
     let a = c.args in put-framed (record { channel = a.frame.channel; payload = heartbeat }) a.next.at a.payload.now _ _ _ c.heartbeat_words.ensures (heartbeat-read errata a.s.now (frame_of a.frame) a.next.at a.used a.tape.now c.requires (ap type_octet c.in-Heartbeat.is) (omega (arith, c.if-start-end.false)))

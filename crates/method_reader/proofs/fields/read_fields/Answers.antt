@@ -1,5 +1,5 @@
--- `method_reader::fields::read_fields` meets its contract: what is left, done, does the whole. In a turn t is where the field is
--- present, e the loop's head. Assumes nothing.
+-- `method_reader::fields::read_fields` meets its contract: what is left, done, does the whole. In a turn the field is absent, or it is
+-- read, and then it may be a table with records. Assumes nothing.
 use mathlib.Core.Path.{refl, ap}
 use Rattle.method_reader.specs.AnswerOf.{answer_of_field}
 use Rattle.method_reader.proofs.FieldLaws.{at-end, turn-absent, words-here, turn-refused, own-fits, turn-plain, turn-table}
