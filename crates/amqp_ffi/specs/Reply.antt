@@ -1,7 +1,7 @@
 -- What an exported function leaves for its caller: the code it returns and the four words lent for its answer. Code 0 is a value,
 -- any other the number of a refusal (document 01, "Results and refusals").
 use Rattle.std.specs.Prelude.{ℕ, List, [], ◌∷◌, ◌++◌, take}
-use Rattle.std.proofs.Math.Option.{Option, none, some}
+use Rattle.std.specs.Prelude.{Option, None, Some}
 use Rattle.types.specs.Answer.{Refusal, Answer, given, refused}
 use Rattle.types.specs.Memory.{Outcome, outcome}
 use Rattle.types.specs.declared.Span.{Span}
@@ -82,8 +82,8 @@ abbrev pub walk_reply : ℕ → List ℕ → List ℕ → List ℕ → WalkReply
 walk_reply code words tape register = record { answer = reply code words; tape = tape; register = register }
 
 abbrev pub stop_reply : ℕ → ℕ → Option Refusal → Reply
-stop_reply consumed frames none = reply 0 (four (consumed ∷ frames ∷ []))
-stop_reply consumed frames (some r) = reply r.number (four (consumed ∷ frames ∷ r.values))
+stop_reply consumed frames None = reply 0 (four (consumed ∷ frames ∷ []))
+stop_reply consumed frames (Some r) = reply r.number (four (consumed ∷ frames ∷ r.values))
 
 abbrev pub walk_reply_of : WalkOutcome → WalkReply
 walk_reply_of w = record { answer = stop_reply w.consumed w.frames w.refusal; tape = w.tape; register = w.register }

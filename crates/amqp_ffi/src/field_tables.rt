@@ -4,21 +4,10 @@ ghost use Rattle.std.specs.Prelude.{◌≡◌};
 ghost use Rattle.tables.specs.Letters.{errata};
 ghost use Rattle.tables.specs.Tape.{read_table, read_lone_value};
 ghost use Rattle.tables.specs.Writing.{write_table, write_lone_value};
-ghost use Rattle.table_reader.specs.AnswerOf.{answer_of_records};
-ghost use Rattle.amqp_ffi.specs.Reply.{reply, reply_of, reply_with, reply_with_of, records, nothing};
+ghost use Rattle.amqp_ffi.specs.Reply.{reply_with, reply_with_of, records, nothing};
 
-use crate::reply::{give, refuse, reply_written};
-use table_reader::ReadRecords;
+use crate::reply::{reply_records, reply_written};
 use types::Cursor;
-
-fn reply_records(words: &mut [u64; 4], answer: ReadRecords) -> u32
-    ensures { reply result words.new ≡ reply_of records (answer_of_records answer) }
-{
-    match answer {
-        ReadRecords::Value(count, next) => give(words, next.at, count as u64, 0),
-        ReadRecords::Refused(e) => refuse(words, e),
-    }
-}
 
 #[unsafe(no_mangle)]
 pub extern "C" fn amqp_field_table(

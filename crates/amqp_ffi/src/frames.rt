@@ -9,12 +9,13 @@ ghost use Rattle.frame_reader.specs.AnswerOf.{stop_refusal};
 ghost use Rattle.amqp_ffi.specs.Reply.{reply, reply_of, reply_with, reply_with_of, walk_reply, walk_reply_of, stop_reply, frame_reply, frame_reply_of, decoded, nothing};
 ghost use Rattle.amqp_ffi.specs.Frames.{write_from};
 
-use crate::reply::{give_three, refuse, reply_written};
+use crate::reply::{give, refuse, reply_written};
+use frame_reader::Walked;
 use frame_reader::decode::decode;
+use frame_reader::walk::walk;
 use frame_reader::words::read_frame_words;
-use frame_reader::{Decoded, ReadFrameWords, Stop};
 use frame_writer::write::write_frame;
-use payload_words::{PayloadFrom, payload_from};
+use payload_words::payload_from;
 use types::Cursor;
 
 // Type, channel, and the length of the payload, which begins behind the first seven octets.
@@ -23,15 +24,16 @@ pub extern "C" fn amqp_decode(s: &[u8], at: usize, words: &mut [u64; 4]) -> u32
     ensures { reply result words.new ≡ reply_of decoded (decode_at s.now at) }
 {
     match decode(s, Cursor { at }) {
-        Decoded::Refused(e) => refuse(words, e),
-        Decoded::Value(f, next) => {
-            let frame_type = f.frame_type;
-            give_three(
+        Err(e) => refuse(words, e),
+        Ok((f, next)) => {
+            give(
                 words,
                 next.at,
-                frame_type.octet() as u64,
-                f.channel as u64,
-                f.payload.len as u64,
+                [
+                    f.frame_type.octet() as u64,
+                    f.channel as u64,
+                    f.payload.len as u64,
+                ],
             )
         }
     }
@@ -51,21 +53,25 @@ pub extern "C" fn amqp_read_frame(
     ensures { frame_reply result words.new tape.new payload.new ≡ frame_reply_of (read_frame errata s.now at used tape.old) payload.old }
 {
     match read_frame_words(s, Cursor { at }, tape, used, payload) {
-        ReadFrameWords::Refused(e) => refuse(words, e),
-        ReadFrameWords::Value(channel, records, next) => {
-            give_three(words, next.at, payload[0], channel as u64, records as u64)
+        Err(e) => refuse(words, e),
+        Ok((frame, next)) => {
+            give(
+                words,
+                next.at,
+                [payload[0], frame.channel as u64, frame.records as u64],
+            )
         }
     }
 }
 
-fn reply_stop(words: &mut [u64; 4], consumed: usize, frames: usize, refusal: Stop) -> u32
-    ensures { reply result words.new ≡ stop_reply consumed frames (stop_refusal refusal) }
+fn reply_walked(words: &mut [u64; 4], w: Walked) -> u32
+    ensures { reply result words.new ≡ stop_reply w.consumed w.frames (stop_refusal w.refusal) }
 {
-    match refusal {
-        Stop::None => give_three(words, consumed, frames as u64, 0, 0),
-        Stop::Refused(e) => {
+    match w.refusal {
+        None => give(words, w.consumed, [w.frames as u64, 0, 0]),
+        Some(e) => {
             let r = e.numbered();
-            *words = [consumed as u64, frames as u64, r.first, r.second];
+            *words = [w.consumed as u64, w.frames as u64, r.first, r.second];
             r.number as u32
         }
     }
@@ -81,9 +87,7 @@ pub extern "C" fn amqp_walk(
 ) -> u32
     ensures { walk_reply result words.new tape.new register.new ≡ walk_reply_of (walk errata s.now tape.old register.old) }
 {
-    let w = frame_reader::walk::walk(s, tape, register);
-    let refusal = w.refusal;
-    reply_stop(words, w.consumed, w.frames, refusal)
+    reply_walked(words, walk(s, tape, register))
 }
 
 // The frame of a payload that is given as words (crates/payload_words); its strings and its body are spans of the pool.
@@ -100,9 +104,7 @@ pub extern "C" fn amqp_write_frame(
     ensures { reply_with result words.new out.new ≡ reply_with_of nothing (write_from errata channel pool.now tape.now (payload_from payload.now) at out.old) }
 {
     match payload_from(*payload) {
-        PayloadFrom::Refused(e) => refuse(words, e),
-        PayloadFrom::Value(given) => {
-            reply_written(words, write_frame(out, at, channel, given, pool, tape))
-        }
+        Err(e) => refuse(words, e),
+        Ok(given) => reply_written(words, write_frame(out, at, channel, given, pool, tape)),
     }
 }

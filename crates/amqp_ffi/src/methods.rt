@@ -5,8 +5,7 @@ ghost use Rattle.method.specs.Reading.{read_header};
 ghost use Rattle.method_writer.specs.Calls.{write_call};
 ghost use Rattle.amqp_ffi.specs.Reply.{reply_with, reply_with_of, header, nothing};
 
-use crate::reply::{give_three, refuse, reply_written};
-use method_reader::ReadHeaderWords;
+use crate::reply::{give, refuse, reply_written};
 use method_reader::headers::read_header_words;
 use method_words::Call;
 use method_writer::commands::write_call;
@@ -25,9 +24,13 @@ pub extern "C" fn amqp_content_header(
 {
     let mut properties = [0u64; 22];
     match read_header_words(s, Cursor { at }, tape, used, &mut properties) {
-        ReadHeaderWords::Refused(e) => refuse(words, e),
-        ReadHeaderWords::Value(class, body_size, _, records, next) => {
-            give_three(words, next.at, class as u64, body_size, records as u64)
+        Err(e) => refuse(words, e),
+        Ok((header, next)) => {
+            give(
+                words,
+                next.at,
+                [header.class as u64, header.body_size, header.records as u64],
+            )
         }
     }
 }

@@ -1,4 +1,5 @@
-// Writers at a place of the output: the position behind what was written. A refusal leaves the output as it was.
+// Writers at a place of the output: the position behind what was written. A refusal leaves the output as it was. One function for each
+// width, since C calls each by its name.
 ghost use Rattle.std.specs.Prelude.{◌≡◌};
 ghost use Rattle.writers.specs.Writers.{write_uint, write_short_str, write_long_str};
 ghost use Rattle.amqp_ffi.specs.Reply.{reply_with, reply_with_of, nothing};

@@ -1,216 +1,211 @@
-// What a function has answered, in numbers, and how it is printed: the position behind what was read or written, then values, each behind
-// a space. Numbers are hexadecimal without leading zeros, but the number of a refusal is decimal.
-ghost use Rattle.std.specs.Prelude.{◌≤◌, length};
+// What a function has answered, and how it is printed: the position behind what was read or written, then values, each behind a space.
+// Numbers are hexadecimal without leading zeros, but the number of a refusal is decimal.
+ghost use Rattle.print.specs.Printing.{FitsBuffer};
 
 use crate::lent;
-use std::num::wrapping_sub_usize;
-use types::{Span, WireError};
+use print::Printer;
+use std::ops::Range;
+use types::{Read, Span, WireError};
 use writers::Written;
 
-// A refusal by document 01's number, or 0; up to three values; where octets stand, if any were read; and a word, by its number.
+// What there is to say of numbers or octets: that they are the bits of a NaN, that they are below zero, that they are no UTF-8.
 #[derive(Clone, Copy)]
-pub struct Told {
-    pub refusal: u8,
-    pub next: usize,
-    pub count: u8,
-    pub first: u64,
-    pub second: u64,
-    pub third: u64,
-    pub has_octets: bool,
-    pub octets: Span,
-    pub word: u8,
+pub enum Remark {
+    Nan,
+    Negative,
+    IllFormed,
 }
 
-// The words: a NaN is answered by its bits, a number is below zero, a text is no UTF-8.
-pub const NAN: u8 = 1;
+// Up to three numbers, where octets stand, and a remark. The numbers are no ArrayVec of the kit: that is no Copy, which an answer is.
+#[derive(Clone, Copy)]
+pub struct Values {
+    pub numbers: [Option<u64>; 3],
+    pub octets: Option<Span>,
+    pub remark: Option<Remark>,
+}
 
-pub const NEGATIVE: u8 = 2;
+pub const NOTHING: Values = Values {
+    numbers: [None, None, None],
+    octets: None,
+    remark: None,
+};
 
-pub const ILL_FORMED: u8 = 3;
+impl Values {
+    pub fn number(n: u64) -> Values {
+        Values {
+            numbers: [Some(n), None, None],
+            ..NOTHING
+        }
+    }
 
-// No refusal: the line is no case.
-pub const NO_CASE: u8 = 255;
+    pub fn numbers(first: u64, second: u64) -> Values {
+        Values {
+            numbers: [Some(first), Some(second), None],
+            ..NOTHING
+        }
+    }
 
-pub fn values(next: usize, count: u8, first: u64, second: u64, third: u64) -> Told {
-    Told {
-        refusal: 0,
-        next,
-        count,
-        first,
-        second,
-        third,
-        has_octets: false,
-        octets: Span { start: 0, len: 0 },
-        word: 0,
+    pub fn octets(octets: Span) -> Values {
+        Values {
+            octets: Some(octets),
+            ..NOTHING
+        }
+    }
+
+    // A number in two's complement, by its bits.
+    pub fn signed(bits: u64, is_negative: bool) -> Values {
+        Values {
+            remark: is_negative.then_some(Remark::Negative),
+            ..Values::number(bits)
+        }
+    }
+
+    pub fn nan(bits: u64) -> Values {
+        Values {
+            remark: Some(Remark::Nan),
+            ..Values::number(bits)
+        }
     }
 }
 
-// Octets, behind two values or none.
-pub fn octets_at(next: usize, count: u8, first: u64, second: u64, octets: Span) -> Told {
-    let mut t = values(next, count, first, second, 0);
-    t.has_octets = true;
-    t.octets = octets;
-    t
+// What was read or written up to a position.
+#[derive(Clone, Copy)]
+pub struct Answer {
+    pub next: usize,
+    pub values: Values,
 }
 
-pub fn refused(e: WireError) -> Told {
-    let r = e.numbered();
-    let mut t = values(0, r.count, r.first, r.second, 0);
-    t.refusal = r.number;
-    t
+// Why there is no answer: a refusal, or that the line is no case.
+#[derive(Clone, Copy)]
+pub enum NoAnswer {
+    Refused(WireError),
+    NoCase,
 }
 
-pub fn no_case() -> Told {
-    let mut t = values(0, 0, 0, 0, 0);
-    t.refusal = NO_CASE;
-    t
+pub type Told = Result<Answer, NoAnswer>;
+
+pub fn told(next: usize, values: Values) -> Told {
+    Ok(Answer { next, values })
 }
 
-pub fn with_word(mut t: Told, word: u8) -> Told {
-    t.word = word;
-    t
+impl From<WireError> for NoAnswer {
+    fn from(e: WireError) -> NoAnswer {
+        NoAnswer::Refused(e)
+    }
+}
+
+// What a reader has answered, by what its value says.
+pub(crate) fn of_read<T, F: FnOnce(T) -> Values>(r: Read<T>, values: F) -> Told
+    requires { F.IsAlwaysCallable values }
+{
+    let (value, next) = r?;
+    told(next.at, values(value))
 }
 
 pub fn of_written(w: Written) -> Told {
-    match w {
-        Written::Next(next) => values(next, 0, 0, 0, 0),
-        Written::Refused(e) => refused(e),
-    }
-}
-
-// Two digits an octet, `-` for none.
-fn octets(rt: HostRuntime, out: &mut [u8], at: usize, s: &[u8]) -> usize
-    ensures { result ≤ length out.old }
-{
-    if s.len() == 0 {
-        return print::put(rt, out, at, b'-');
-    }
-    print::octets(rt, out, at, s)
+    told(w?, NOTHING)
 }
 
 // A number behind `separator`.
-pub fn and_number(rt: HostRuntime, out: &mut [u8], at: usize, separator: u8, n: u64) -> usize
-    ensures { result ≤ length out.old }
+pub fn and_number(printer: &mut Printer, separator: u8, n: u64)
+    ensures { FitsBuffer printer.new }
 {
-    let next = print::put(rt, out, at, separator);
-    print::hex(rt, out, next, n)
+    printer.put(separator);
+    write!(printer, "{n:x}");
 }
 
-// The octets of a span, behind `separator`. A span that reaches outside `s`, as no reader answers it, shows as `?`.
-pub fn and_span(
-    rt: HostRuntime,
-    out: &mut [u8],
-    at: usize,
-    separator: u8,
-    s: &[u8],
-    v: Span,
-) -> usize
-    ensures { result ≤ length out.old }
+// Numbers joined by `:`, behind `separator`.
+pub fn and_joined(printer: &mut Printer, separator: u8, numbers: &[u64])
+    ensures { FitsBuffer printer.new }
 {
-    let next = print::put(rt, out, at, separator);
-    let start = v.start;
-    let len = v.len;
-    if s.len() < start {
-        return print::put(rt, out, next, b'?');
+    for (i, n) in numbers.iter().enumerate() {
+        and_number(printer, if i == 0 { separator } else { b':' }, *n);
     }
-    if s.len() - start < len {
-        return print::put(rt, out, next, b'?');
-    }
-    let end = start + len;
-    octets(rt, out, next, &s[start..end])
 }
 
-// The first value, then the second and the third, where there are so many.
-fn and_values(rt: HostRuntime, t: Told, separator: u8, out: &mut [u8], at: usize) -> usize {
-    if t.count == 0 {
-        return at;
+// The octets of a span, behind `separator`: two digits each, `-` for none. A span that reaches outside `s`, as no reader answers it,
+// shows as `?`.
+pub fn and_span(printer: &mut Printer, separator: u8, s: &[u8], v: Span)
+    ensures { FitsBuffer printer.new }
+{
+    printer.put(separator);
+    match v.octets_in(s) {
+        None => printer.put(b'?'),
+        Some([]) => printer.put(b'-'),
+        Some(octets) => printer.octets(octets),
     }
-    let one = and_number(rt, out, at, separator, t.first);
-    if t.count == 1 {
-        return one;
+}
+
+// Those that there are of some numbers, each behind `separator`.
+fn and_numbers(printer: &mut Printer, separator: u8, numbers: [Option<u64>; 3]) {
+    for number in numbers {
+        if let Some(n) = number {
+            and_number(printer, separator, n);
+        }
     }
-    let two = and_number(rt, out, one, separator, t.second);
-    if t.count == 2 {
-        return two;
-    }
-    and_number(rt, out, two, separator, t.third)
 }
 
 // The number of a refusal and its values, each behind `separator`.
-pub fn refusal(rt: HostRuntime, t: Told, separator: u8, out: &mut [u8], at: usize) -> usize {
-    let next = print::decimal(rt, out, at, t.refusal as u64);
-    and_values(rt, t, separator, out, next)
-}
-
-fn and_octets(rt: HostRuntime, t: Told, s: &[u8], out: &mut [u8], at: usize) -> usize {
-    if !t.has_octets {
-        return at;
-    }
-    let v = t.octets;
-    and_span(rt, out, at, b' ', s, v)
-}
-
-fn and_word(rt: HostRuntime, t: Told, out: &mut [u8], at: usize) -> usize {
-    let word = t.word;
-    match word {
-        NAN => print::text(rt, out, at, b" nan"),
-        NEGATIVE => print::text(rt, out, at, b" negative"),
-        ILL_FORMED => print::text(rt, out, at, b" ill-formed"),
-        _ => at,
+pub fn refusal(printer: &mut Printer, separator: u8, e: WireError) {
+    let r = e.numbered();
+    write!(printer, "{}", r.number);
+    for value in [r.first, r.second].iter().take(r.count as usize) {
+        and_number(printer, separator, *value);
     }
 }
 
-// Values, octets and a word, those that there are.
-pub fn and_rest(rt: HostRuntime, t: Told, s: &[u8], out: &mut [u8], at: usize) -> usize {
-    let with_values = and_values(rt, t, b' ', out, at);
-    let with_octets = and_octets(rt, t, s, out, with_values);
-    and_word(rt, t, out, with_octets)
+// Values of `s`, those that there are.
+pub fn and_values(printer: &mut Printer, v: Values, s: &[u8]) {
+    and_numbers(printer, b' ', v.numbers);
+    if let Some(octets) = v.octets {
+        and_span(printer, b' ', s, octets);
+    }
+    match v.remark {
+        None => {}
+        Some(Remark::Nan) => printer.text(b" nan"),
+        Some(Remark::Negative) => printer.text(b" negative"),
+        Some(Remark::IllFormed) => printer.text(b" ill-formed"),
+    }
 }
 
 // What a function has read of `s`.
-pub fn shown(rt: HostRuntime, t: Told, s: &[u8], out: &mut [u8], at: usize) -> usize {
-    if t.refusal == NO_CASE {
-        return print::put(rt, out, at, b'?');
+pub fn shown(printer: &mut Printer, told: Told, s: &[u8]) {
+    match told {
+        Err(NoAnswer::NoCase) => printer.put(b'?'),
+        Err(NoAnswer::Refused(e)) => {
+            printer.text(b"! ");
+            refusal(printer, b' ', e);
+        }
+        Ok(answer) => {
+            printer.put(b'=');
+            and_number(printer, b' ', answer.next as u64);
+            and_values(printer, answer.values, s);
+        }
     }
-    if t.refusal != 0 {
-        let start = print::text(rt, out, at, b"! ");
-        return refusal(rt, t, b' ', out, start);
-    }
-    let start = print::put(rt, out, at, b'=');
-    let next = and_number(rt, out, start, b' ', t.next as u64);
-    and_rest(rt, t, s, out, next)
 }
 
-// Whether lent octets are as `fill` left them, but for those from one place to another.
-fn kept_but(lent: &[u8], from: usize, to: usize) -> bool {
-    if to < from {
-        return false;
-    }
-    if lent.len() < to {
-        return false;
-    }
-    lent::kept(&lent[0..from], 0) && lent::kept(lent, to)
+// Whether lent octets are as `fill` left them, but for those of a range. Each side is asked for by itself: what `kept` compares goes by
+// places from the front, and a chain of the two sides has none.
+fn kept_but(lent: &[u8], changed: &Range<usize>) -> bool {
+    changed.start <= changed.end
+        && changed.end <= lent.len()
+        && lent::kept(&lent[..changed.start], 0)
+        && lent::kept(lent, changed.end)
 }
 
 // What a writer has written from `from` on, if it has changed nothing else; nothing at all, if it has refused.
-pub fn written(
-    rt: HostRuntime,
-    t: Told,
-    from: usize,
-    lent: &[u8],
-    out: &mut [u8],
-    at: usize,
-) -> usize {
-    let start = if t.refusal == 0 { from } else { 0 };
-    if !kept_but(lent, start, t.next) {
-        return print::text(rt, out, at, b"# changed");
+pub fn written(printer: &mut Printer, told: Told, from: usize, lent: &[u8]) {
+    let part = told.map_or(0..0, |answer| from..answer.next);
+    if !kept_but(lent, &part) {
+        return printer.text(b"# changed");
     }
-    if t.refusal != 0 {
-        return shown(rt, t, lent, out, at);
-    }
-    let octets = Span {
-        start,
-        len: wrapping_sub_usize(t.next, start),
-    };
-    shown(rt, octets_at(t.next, 0, 0, 0, octets), lent, out, at)
+    let octets = Values::octets(Span {
+        start: part.start,
+        len: part.len(),
+    });
+    let with_octets = told.map(|answer| Answer {
+        next: answer.next,
+        values: octets,
+    });
+    shown(printer, with_octets, lent);
 }

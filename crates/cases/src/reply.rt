@@ -1,47 +1,38 @@
 // The reply readers.
-use crate::answer;
-use crate::answer::Told;
-use crate::reading::{of_span, of_u32, of_u64};
-use replies::{ReadMethodId, ReadTuneParams};
+use crate::answer::{NOTHING, Told, Values, of_read};
+use crate::operation::ReplyReader;
+use crate::reading::{of_span, of_uint};
+use replies::{MethodId, TuneParams};
 use types::Cursor;
 
-fn of_method_id(r: ReadMethodId) -> Told {
-    match r {
-        ReadMethodId::Value(v, next) => {
-            answer::values(next.at, 2, v.class as u64, v.method as u64, 0)
-        }
-        ReadMethodId::Refused(e) => answer::refused(e),
-    }
+fn of_method_id(v: MethodId) -> Values {
+    Values::numbers(v.class as u64, v.method as u64)
 }
 
-fn of_tune_params(r: ReadTuneParams) -> Told {
-    match r {
-        ReadTuneParams::Value(v, next) => {
-            let heartbeat = v.heartbeat as u64;
-            answer::values(
-                next.at,
-                3,
-                v.channel_max as u64,
-                v.frame_max as u64,
-                heartbeat,
-            )
-        }
-        ReadTuneParams::Refused(e) => answer::refused(e),
-    }
+fn of_tune_params(v: TuneParams) -> Values {
+    let numbers = [
+        Some(v.channel_max as u64),
+        Some(v.frame_max as u64),
+        Some(v.heartbeat as u64),
+    ];
+    Values { numbers, ..NOTHING }
 }
 
-// 10 to 18.
-pub fn read(op: u8, s: &[u8], at: usize) -> Told {
+pub fn read(reader: ReplyReader, s: &[u8], at: usize) -> Told {
     let start = Cursor { at };
-    match op {
-        0x10 => of_method_id(replies::method_id(s, start)),
-        0x11 => of_tune_params(replies::connection_tune_params(s, start)),
-        0x12 => of_span(replies::queue_declare_ok_name(s, start)),
-        0x13 => of_span(replies::basic_consume_ok_tag(s, start)),
-        0x14 => of_u32(replies::queue_op_ok_message_count(s, start)),
-        0x15 => of_u64(replies::basic_get_ok_delivery_tag(s, start)),
-        0x16 => of_u64(replies::basic_deliver_delivery_tag(s, start)),
-        0x17 => of_u64(replies::basic_ack_delivery_tag(s, start)),
-        _ => of_u64(replies::content_header_body_size(s, start)),
+    match reader {
+        ReplyReader::MethodId => of_read(replies::method_id(s, start), of_method_id),
+        ReplyReader::ConnectionTuneParams => {
+            of_read(replies::connection_tune_params(s, start), of_tune_params)
+        }
+        ReplyReader::QueueDeclareOkName => of_span(replies::queue_declare_ok_name(s, start)),
+        ReplyReader::BasicConsumeOkTag => of_span(replies::basic_consume_ok_tag(s, start)),
+        ReplyReader::QueueOpOkMessageCount => of_uint(replies::queue_op_ok_message_count(s, start)),
+        ReplyReader::BasicGetOkDeliveryTag => of_uint(replies::basic_get_ok_delivery_tag(s, start)),
+        ReplyReader::BasicDeliverDeliveryTag => {
+            of_uint(replies::basic_deliver_delivery_tag(s, start))
+        }
+        ReplyReader::BasicAckDeliveryTag => of_uint(replies::basic_ack_delivery_tag(s, start)),
+        ReplyReader::ContentHeaderBodySize => of_uint(replies::content_header_body_size(s, start)),
     }
 }

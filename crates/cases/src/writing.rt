@@ -1,71 +1,42 @@
 // The writers of one field: numbers, each given at its own width; eight flags in an octet; strings and octets.
-use crate::answer;
-use crate::answer::Told;
-use crate::line::big_endian;
+use crate::answer::{NoAnswer, Told, of_written};
+use crate::operation::{Number, Writer};
 use writers::Written;
 
-// The octets of the number that an operation writes.
-fn width_of(op: u8) -> usize {
-    match op % 4 {
-        0 => 1,
-        1 => 2,
-        2 => 4,
-        _ => 8,
-    }
+// A field that has as many octets as are wanted.
+fn exactly<const N: usize>(s: &[u8]) -> Result<[u8; N], NoAnswer> {
+    <[u8; N]>::try_from(s).map_err(|_| NoAnswer::NoCase)
 }
 
-fn write_number(op: u8, n: u64, lent: &mut [u8], at: usize) -> Written {
-    match op {
-        0x40 => writers::write_u8(lent, at, (n % 0x100) as u8),
-        0x41 => writers::write_u16(lent, at, (n % 0x1_0000) as u16),
-        0x42 => writers::write_u32(lent, at, (n % 0x1_0000_0000) as u32),
-        0x43 => writers::write_u64(lent, at, n),
-        0x44 => writers::write_i8(lent, at, bits::signed8((n % 0x100) as u8)),
-        0x45 => writers::write_i16(lent, at, bits::signed16((n % 0x1_0000) as u16)),
-        0x46 => writers::write_i32(lent, at, bits::signed32((n % 0x1_0000_0000) as u32)),
-        _ => writers::write_i64(lent, at, bits::signed64(n)),
-    }
+fn write_number(number: Number, s: &[u8], lent: &mut [u8], at: usize) -> Result<Written, NoAnswer> {
+    Ok(match number {
+        Number::U8 => writers::write_u8(lent, at, u8::from_be_bytes(exactly(s)?)),
+        Number::U16 => writers::write_u16(lent, at, u16::from_be_bytes(exactly(s)?)),
+        Number::U32 => writers::write_u32(lent, at, u32::from_be_bytes(exactly(s)?)),
+        Number::U64 => writers::write_u64(lent, at, u64::from_be_bytes(exactly(s)?)),
+        Number::I8 => writers::write_i8(lent, at, i8::from_be_bytes(exactly(s)?)),
+        Number::I16 => writers::write_i16(lent, at, i16::from_be_bytes(exactly(s)?)),
+        Number::I32 => writers::write_i32(lent, at, i32::from_be_bytes(exactly(s)?)),
+        Number::I64 => writers::write_i64(lent, at, i64::from_be_bytes(exactly(s)?)),
+    })
 }
 
-fn number(op: u8, s: &[u8], lent: &mut [u8], at: usize) -> Told {
-    if s.len() != width_of(op) {
-        return answer::no_case();
-    }
-    answer::of_written(write_number(op, big_endian(s), lent, at))
-}
-
-// Whether every octet is 00 or 01.
-fn are_flags(s: &[u8]) -> bool {
-    let mut i = 0;
-    while i < s.len() {
-        if 1 < s[i] {
-            return false;
-        }
-        i += 1;
-    }
-    true
-}
-
-// Eight flags, an octet each: written as one octet.
+// Eight flags, an octet 00 or 01 each: written as one octet.
 fn packed(s: &[u8], lent: &mut [u8], at: usize) -> Told {
-    if s.len() != 8 || !are_flags(s) {
-        return answer::no_case();
+    let octets: [u8; 8] = exactly(s)?;
+    if octets.iter().any(|b| *b > 1) {
+        return Err(NoAnswer::NoCase);
     }
-    let low = [s[0] == 1, s[1] == 1, s[2] == 1, s[3] == 1];
-    let high = [s[4] == 1, s[5] == 1, s[6] == 1, s[7] == 1];
-    let flags = [
-        low[0], low[1], low[2], low[3], high[0], high[1], high[2], high[3],
-    ];
-    answer::of_written(writers::write_u8(lent, at, bits::pack_bits(flags)))
+    let flags = octets.map(|b| b == 1);
+    of_written(writers::write_u8(lent, at, bits::pack_bits(flags)))
 }
 
-// 40 to 4b.
-pub fn write(op: u8, s: &[u8], lent: &mut [u8], at: usize) -> Told {
-    match op {
-        0x48 => packed(s, lent, at),
-        0x49 => answer::of_written(writers::write_short_str(lent, at, s)),
-        0x4a => answer::of_written(writers::write_long_str(lent, at, s)),
-        0x4b => answer::of_written(writers::write_octets(lent, at, s)),
-        _ => number(op, s, lent, at),
+pub fn write(writer: Writer, s: &[u8], lent: &mut [u8], at: usize) -> Told {
+    match writer {
+        Writer::Number(number) => of_written(write_number(number, s, lent, at)?),
+        Writer::PackBits => packed(s, lent, at),
+        Writer::ShortStr => of_written(writers::write_short_str(lent, at, s)),
+        Writer::LongStr => of_written(writers::write_long_str(lent, at, s)),
+        Writer::Octets => of_written(writers::write_octets(lent, at, s)),
     }
 }

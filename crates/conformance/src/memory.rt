@@ -1,24 +1,31 @@
-// Memory that is lent to the functions that are tried. Most of it is made once: what is made for each case is cleared for each case. A contract gives the length, which lending an array as a slice needs.
-ghost use Rattle.std.specs.Prelude.{◌≡◌, length};
+// Memory that a case is taken into, and that is lent to the functions that are tried: made once.
+use std::alloc::{AllocError, Global};
+use table_cases::parts::Parts;
 
-pub(crate) fn octets() -> [u8; 400_000]
-    ensures { 400000 ≡ length result }
-{
-    [0; 400_000]
-}
+// For the octets of a case, and for what a writer writes.
+const OCTETS: usize = 400_000;
 
 // A used record, 65,536 free ones, and three words that are no record.
-pub(crate) fn tape() -> [u64; 393_225]
-    ensures { 393225 ≡ length result }
-{
-    [0; 393_225]
-}
+const TAPE_WORDS: usize = 393_225;
 
 // 25,000 entries, and two words that are none.
-pub(crate) const REGISTER_WORDS: usize = 75_002;
+const REGISTER_WORDS: usize = 75_002;
 
-pub(crate) fn register() -> [u64; REGISTER_WORDS]
-    ensures { 75002 ≡ length result }
-{
-    [0; REGISTER_WORDS]
+#[derive(Drop)]
+pub(crate) struct Memory {
+    pub(crate) parts: Parts,
+    pub(crate) tape: Vec<u64>,
+    pub(crate) lent: Vec<u8>,
+    pub(crate) register: Vec<u64>,
+}
+
+impl Memory {
+    pub(crate) fn new(alloc: Global) -> Result<Memory, AllocError> {
+        Ok(Memory {
+            parts: Parts::new(alloc, OCTETS, TAPE_WORDS)?,
+            tape: vec![in alloc; 0u64; TAPE_WORDS]?,
+            lent: vec![in alloc; 0u8; OCTETS]?,
+            register: vec![in alloc; 0u64; REGISTER_WORDS]?,
+        })
+    }
 }

@@ -6,249 +6,165 @@
 ghost use Rattle.std.specs.Prelude.{◌≡◌, ◌≤◌, length};
 
 use dissector::ending;
-use dissector::frame_line::{Dissected, frames};
-use dissector::method_name::commands;
+use dissector::ending::Ending;
+use dissector::frame_line::frames;
 use frame::PROTOCOL_HEADER;
-use frame_reader::Stop;
+use print::Printer;
+use std::alloc::AllocError;
 use std::io::Read;
-use std::num::{wrapping_add_u64, wrapping_sub_u64};
 use types::WireError;
 
-// The octets that are held, of which the first stands at `base` of the input; how many of those before it a protocol header was; the
-// frames so far; the octets of the output that are not yet written; whether nothing more is read, and whether that is for a refusal.
-#[derive(Clone, Copy)]
-struct Progress {
+const BUFFER: usize = 2_097_152;
+
+// Six words a record, of which a frame has no more than an octet.
+const TAPE: usize = 393_216;
+
+const OUTPUT: usize = 65_536;
+
+// Whether more is read: not at the end of the input, and not behind what was refused.
+#[derive(Clone, Copy, PartialEq, Eq)]
+enum Input {
+    Open,
+    Ended,
+    Stopped,
+}
+
+// Octets of the input that are not yet shown: the first `held` of a lent buffer, of which the first stands at `base` of the input.
+#[derive(Drop)]
+struct Unshown<'a> {
+    buffer: &'a mut [u8],
     held: usize,
     base: u64,
+    ghost inside: { held ≤ length buffer.now },
+}
+
+// How many octets a protocol header was, and the frames so far.
+#[derive(Clone, Copy)]
+struct Shown {
     header: u64,
     frames: u64,
-    pending: usize,
-    ended: bool,
-    stopped: bool,
 }
 
-fn with_held(p: Progress, held: usize, ended: bool) -> Progress
-    ensures { result.held ≡ held }
-{
-    Progress {
-        held,
-        base: p.base,
-        header: p.header,
-        frames: p.frames,
-        pending: p.pending,
-        ended,
-        stopped: p.stopped,
+impl Unshown<'_> {
+    fn octets(&self) -> &[u8]
+        ensures { length result.now ≡ self.now.held }
+    {
+        &self.buffer[..self.held]
     }
-}
 
-// Reads once, behind the octets that are held.
-fn read_more(rt: HostRuntime, buffer: &mut [u8], p: Progress) -> Progress
-    requires { p.held ≤ length buffer.old }
-    ensures { result.held ≤ length buffer.old }
-{
-    let held = p.held;
-    match rt.stdin().read(&mut buffer[held..]) {
-        Ok(n) => with_held(p, held + n, n == 0),
-        Err(_) => {
-            let _ = eprintln!(rt; "dissect: input failed");
-            with_held(p, held, true)
+    fn is_full(&self) -> bool {
+        self.held == self.buffer.len()
+    }
+
+    // Reads once, behind the octets that are held.
+    fn read_more(&mut self, rt: HostRuntime) -> Input {
+        match rt.stdin().read(&mut self.buffer[self.held..]) {
+            Ok(0) => Input::Ended,
+            Ok(n) => {
+                self.held += n;
+                Input::Open
+            }
+            Err(_) => {
+                let _ = eprintln!(rt; "dissect: input failed");
+                Input::Ended
+            }
         }
     }
-}
 
-// How many octets the protocol header is that some octets begin with.
-fn header_len(s: &[u8]) -> usize
-    ensures { result ≤ length s.now }
-{
-    let mut i = 0;
-    while i < 8 {
-        if s.len() <= i {
-            return 0;
+    // Passes over the first n octets. Where there are none, nothing is moved: a large frame may come in small pieces.
+    fn skip(&mut self, n: usize)
+        requires { n ≤ self.old.held }
+    {
+        if n == 0 {
+            return;
         }
-        if s[i] != PROTOCOL_HEADER[i] {
-            return 0;
-        }
-        i += 1;
+        self.buffer.copy_within(n..self.held, 0);
+        self.held -= n;
+        self.base = self.base.wrapping_add(n as u64);
     }
-    i
-}
 
-// The octets from `from` up to `end`, moved to the front. A large frame that comes in small pieces is not moved for each.
-fn move_to_front(buffer: &mut [u8], from: usize, end: usize)
-    requires { end ≤ length buffer.old }
-{
-    if from == 0 {
-        return;
-    }
-    let mut i = from;
-    while i < end {
-        buffer[i - from] = buffer[i];
-        i += 1;
+    // What is held when no more is read.
+    fn ending(&self, input: Input) -> Ending {
+        let Unshown { base, held, .. } = *self;
+        match input {
+            Input::Stopped => Ending::Stopped { base },
+            _ if held == 0 => Ending::Whole,
+            _ => Ending::Truncated { base, held },
+        }
     }
 }
 
 // Passes over a protocol header at the beginning of the input.
-fn skip_header(rt: HostRuntime, buffer: &mut [u8], p: Progress, out: &mut [u8]) -> Progress
-    requires { p.held ≤ length buffer.old }
-    ensures { result.held ≤ length buffer.old }
-{
-    let held = p.held;
-    let len = header_len(&buffer[0..held]);
-    if p.base != 0 || len == 0 {
-        return p;
+fn skip_header(unshown: &mut Unshown, shown: &mut Shown, printer: &mut Printer) {
+    if unshown.base != 0 || !unshown.octets().starts_with(&PROTOCOL_HEADER) {
+        return;
     }
-    move_to_front(buffer, len, held);
-    Progress {
-        held: held - len,
-        base: len as u64,
-        header: len as u64,
-        frames: 0,
-        pending: ending::protocol_header(rt, out, p.pending),
-        ended: p.ended,
-        stopped: false,
-    }
+    let len = PROTOCOL_HEADER.len();
+    unshown.skip(len);
+    shown.header = len as u64;
+    ending::protocol_header(printer);
 }
 
-// What has stopped the frames: one that is not whole is read on, if it fits the buffer.
-fn after_refusal(
-    rt: HostRuntime,
-    p: Progress,
-    e: WireError,
-    buffer: usize,
-    out: &mut [u8],
-) -> Progress
-    ensures { result.held ≡ p.held }
-{
+// What has stopped the frames ends the input. Only a frame that is not whole is read on, if it fits the buffer.
+fn after_refusal(unshown: &Unshown, input: Input, e: WireError, printer: &mut Printer) -> Input {
     match e {
-        WireError::Truncated => {
-            if p.held < buffer {
-                return p;
-            }
-            stopped(p, ending::too_large(rt, out, p.pending, p.base, buffer))
-        }
-        _ => stopped(p, ending::refused(rt, out, p.pending, p.base, e)),
+        WireError::Truncated if !unshown.is_full() => return input,
+        WireError::Truncated => ending::too_large(printer, unshown.base, unshown.buffer.len()),
+        _ => ending::refused(printer, unshown.base, e),
     }
-}
-
-fn stopped(p: Progress, pending: usize) -> Progress
-    ensures { result.held ≡ p.held }
-{
-    Progress {
-        held: p.held,
-        base: p.base,
-        header: p.header,
-        frames: p.frames,
-        pending,
-        ended: true,
-        stopped: true,
-    }
-}
-
-// Past the frames that were shown.
-fn past(p: Progress, d: Dissected) -> Progress
-    requires { d.consumed ≤ p.held }
-    ensures { result.held ≤ p.held }
-{
-    Progress {
-        held: p.held - d.consumed,
-        base: wrapping_add_u64(p.base, d.consumed as u64),
-        header: p.header,
-        frames: wrapping_add_u64(p.frames, d.frames as u64),
-        pending: d.next,
-        ended: p.ended,
-        stopped: false,
-    }
-}
-
-// Shows the frames that are held, and keeps what is behind them.
-fn take(
-    rt: HostRuntime,
-    buffer: &mut [u8],
-    p: Progress,
-    names: &[u8],
-    tape: &mut [u64],
-    out: &mut [u8],
-) -> Progress
-    requires { p.held ≤ length buffer.old }
-    ensures { result.held ≤ length buffer.old }
-{
-    let held = p.held;
-    let d = frames(rt, out, p.pending, names, p.base, &buffer[0..held], tape);
-    move_to_front(buffer, d.consumed, held);
-    let next = past(p, d);
-    let refusal = d.refusal;
-    match refusal {
-        Stop::None => next,
-        Stop::Refused(e) => after_refusal(rt, next, e, buffer.len(), out),
-    }
+    Input::Stopped
 }
 
 // Reads once, and shows what has come whole. No frame has less than eight octets, and the protocol header has as many.
 fn turn(
     rt: HostRuntime,
-    buffer: &mut [u8],
-    p: Progress,
-    names: &[u8],
+    unshown: &mut Unshown,
+    shown: &mut Shown,
     tape: &mut [u64],
-    out: &mut [u8],
-) -> Progress
-    requires { p.held ≤ length buffer.old }
-    ensures { result.held ≤ length buffer.old }
-{
-    let more = read_more(rt, buffer, p);
-    if more.held < 8 && !more.ended {
-        return more;
+    printer: &mut Printer,
+) -> Input {
+    let input = unshown.read_more(rt);
+    if unshown.held < 8 && input == Input::Open {
+        return input;
     }
-    let first = skip_header(rt, buffer, more, out);
-    take(rt, buffer, first, names, tape, out)
+    skip_header(unshown, shown, printer);
+    let walked = frames(printer, unshown.base, unshown.octets(), tape);
+    unshown.skip(walked.consumed);
+    shown.frames = shown.frames.wrapping_add(walked.frames as u64);
+    match walked.refusal {
+        None => input,
+        Some(e) => after_refusal(unshown, input, e, printer),
+    }
 }
 
-// Reads to the end of the input, in no more than `turns` reads: no contract says that the input ends.
-fn dissect(rt: HostRuntime, buffer: &mut [u8], names: &[u8], tape: &mut [u64], out: &mut [u8]) {
-    let mut p = Progress {
+// Reads to the end of the input, in no more reads than a number says: no contract says that the input ends.
+fn dissect(rt: HostRuntime, buffer: &mut [u8], tape: &mut [u64], printer: &mut Printer) {
+    let mut unshown = Unshown {
+        buffer,
         held: 0,
         base: 0,
+    };
+    let mut shown = Shown {
         header: 0,
         frames: 0,
-        pending: 0,
-        ended: false,
-        stopped: false,
     };
-    let mut turns = u64::MAX;
-    while turns > 0 && !p.ended {
-        p = turn(rt, buffer, p, names, tape, out);
-        turns -= 1;
+    let mut input = Input::Open;
+    for _ in 0..u64::MAX {
+        input = turn(rt, &mut unshown, &mut shown, tape, printer);
+        if input != Input::Open {
+            break;
+        }
     }
-    let octets = wrapping_sub_u64(p.base, p.header);
-    let end = ending::summary(
-        rt, out, p.pending, p.frames, octets, p.base, p.held, p.stopped,
-    );
-    print::flush(rt, out, end);
+    let octets = unshown.base.wrapping_sub(shown.header);
+    ending::summary(printer, shown.frames, octets, unshown.ending(input));
+    printer.flush();
 }
 
-// The contract gives only the length, which lending the array as a slice needs.
-fn empty_buffer() -> [u8; 2_097_152]
-    ensures { 2097152 ≡ length result }
-{
-    [0; 2_097_152]
-}
-
-fn empty_tape() -> [u64; 393_216]
-    ensures { 393216 ≡ length result }
-{
-    [0; 393_216]
-}
-
-fn empty_output() -> [u8; 65_536]
-    ensures { 65536 ≡ length result }
-{
-    [0; 65_536]
-}
-
-fn main(rt: HostRuntime) {
-    let mut buffer = empty_buffer();
-    let mut tape = empty_tape();
-    let mut out = empty_output();
-    let names = commands();
-    dissect(rt, &mut buffer, &names, &mut tape, &mut out);
+fn main(rt: HostRuntime) -> Result<(), AllocError> {
+    let mut buffer = vec![in rt.alloc(); 0u8; BUFFER]?;
+    let mut tape = vec![in rt.alloc(); 0u64; TAPE]?;
+    let mut out = vec![in rt.alloc(); 0u8; OUTPUT]?;
+    let mut printer = Printer::new(rt, &mut out);
+    dissect(rt, &mut buffer, &mut tape, &mut printer);
+    Ok(())
 }

@@ -1,221 +1,108 @@
 // Frames, a line each.
+ghost use Rattle.print.specs.Printing.{FitsBuffer};
 ghost use Rattle.std.specs.Prelude.{◌≤◌, length};
 
-use crate::command::command;
+use crate::command::{arguments_of, command};
 use crate::header::header;
-use crate::method_name::method_name;
 use crate::refusal::refused;
-use crate::reply::reply;
-use crate::row::{labeled, word};
-use crate::words::word_at;
-use frame::{Frame, FrameType};
+use crate::reply::values_in;
+use frame::{Frame, FrameType, Payload};
+use frame_reader::Walked;
 use frame_reader::decode::decode;
-use frame_reader::words::read_frame_words;
-use frame_reader::{Decoded, ReadFrameWords, Stop};
-use std::num::{wrapping_add_u64, wrapping_add_usize};
-use types::{Cursor, ReadU16, Span};
+use frame_reader::step::read_frame;
+use method::Command;
+use print::Printer;
+use replies::method_id;
+use types::{Cursor, Span};
 
-// How many frames were shown, their octets, what stands behind them, and the place in the output.
-#[derive(Clone, Copy)]
-pub struct Dissected {
-    pub frames: usize,
-    pub consumed: usize,
-    pub refusal: Stop,
-    pub next: usize,
-}
-
-// The words of a payload, or why it was refused.
-#[derive(Clone, Copy)]
-struct Words {
-    words: [u64; 26],
-    refusal: Stop,
-}
-
-fn read(s: &[u8], first: usize, tape: &mut [u64]) -> Words {
-    let mut words = [0u64; 26];
-    match read_frame_words(s, Cursor { at: first }, tape, 0, &mut words) {
-        ReadFrameWords::Value(_, _, _) => Words {
-            words,
-            refusal: Stop::None,
-        },
-        ReadFrameWords::Refused(e) => Words {
-            words,
-            refusal: Stop::Refused(e),
-        },
+// A command that was read: class and method stand first in its payload.
+fn read_command(printer: &mut Printer, s: &[u8], payload: Span, c: Command) {
+    if let Ok((id, _)) = method_id(s, Cursor { at: payload.start }) {
+        command(printer, s, id, arguments_of(c));
     }
 }
 
-fn payload(
-    rt: HostRuntime,
-    out: &mut [u8],
-    at: usize,
-    names: &[u8],
-    s: &[u8],
-    tape: &[u64],
-    words: &[u64],
-) -> usize
-    requires { at ≤ length out.old }
-    ensures { result ≤ length out.old }
-{
-    match word_at(words, 0) {
-        1 => command(rt, out, at, names, s, words),
-        2 => header(rt, out, at, s, tape, words),
-        3 => labeled(rt, out, at, b" size=", word_at(words, 2)),
-        _ => at,
-    }
-}
-
-// A number of two octets, or 0 where there is none.
-fn u16_at(s: &[u8], at: usize) -> u16 {
-    match (Cursor { at }).u16(s) {
-        ReadU16::Refused(_) => 0,
-        ReadU16::Value(n, _) => n,
-    }
-}
-
-// How much is told of a payload that was refused: of a command class and method, of a content header the class, where it has them.
-fn numbers_in(f: Frame) -> usize {
-    let frame_type = f.frame_type;
-    let len = f.payload.len;
+// What is told of a payload that was refused, as far as it has it: of a command class and method, and of a reply also what its reader
+// takes; of a content header the class.
+fn refused_payload(printer: &mut Printer, octets: &[u8], frame_type: FrameType) {
+    let at = Cursor { at: 0 };
     match frame_type {
-        FrameType::Method => if len < 4 { 0 } else { 2 },
-        FrameType::Header => if len < 2 { 0 } else { 1 },
-        _ => 0,
+        FrameType::Method => {
+            if let Ok((id, _)) = method_id(octets, at) {
+                let values = values_in(octets, at, id).unwrap_or([None, None, None]);
+                command(printer, octets, id, values);
+            }
+        }
+        FrameType::Header => {
+            if let Ok((class, _)) = at.u16(octets) {
+                write!(printer, " class={class}");
+            }
+        }
+        FrameType::Body | FrameType::Heartbeat => {}
     }
 }
 
-// Class and method of a command that was refused; of a reply also what its reader takes.
-fn method_of(rt: HostRuntime, out: &mut [u8], at: usize, names: &[u8], s: &[u8], v: Span) -> usize
-    ensures { result ≤ length out.old }
-{
-    let start = v.start;
-    let end = wrapping_add_usize(start, v.len);
-    let class = u16_at(s, start);
-    let method = u16_at(s, wrapping_add_usize(start, 2));
-    let next = method_name(rt, out, at, names, class, method);
-    if s.len() < end {
-        return next;
-    }
-    reply(rt, out, next, names, &s[0..end], start, class, method)
-}
-
-fn class_of(rt: HostRuntime, out: &mut [u8], at: usize, names: &[u8], s: &[u8], f: Frame) -> usize
-    requires { at ≤ length out.old }
-    ensures { result ≤ length out.old }
-{
-    let span = f.payload;
-    match numbers_in(f) {
-        0 => at,
-        1 => labeled(rt, out, at, b" class=", u16_at(s, span.start) as u64),
-        _ => method_of(rt, out, at, names, s, span),
+// No Display in `frame`: these names would be there for this line alone, and differ from those of Debug.
+fn name_of(frame_type: FrameType) -> &'static str {
+    match frame_type {
+        FrameType::Method => "method",
+        FrameType::Header => "header",
+        FrameType::Body => "body",
+        FrameType::Heartbeat => "heartbeat",
     }
 }
 
-// The payload of a frame that was decoded at `first`, or its refusal.
-fn payload_at(
-    rt: HostRuntime,
-    out: &mut [u8],
-    at: usize,
-    names: &[u8],
-    base: u64,
-    s: &[u8],
-    first: usize,
-    f: Frame,
-    tape: &mut [u64],
-) -> usize
-    requires { at ≤ length out.old }
-    ensures { result ≤ length out.old }
-{
-    let read = read(s, first, tape);
-    let words = read.words;
-    let refusal = read.refusal;
-    match refusal {
-        Stop::None => payload(rt, out, at, names, s, tape, &words),
-        Stop::Refused(e) => {
-            let class = class_of(rt, out, at, names, s, f);
-            refused(rt, out, class, e, base)
+// The line of a frame that was decoded at `first`: its place, its channel and its type, then its payload, or the refusal of that. The
+// first octet of `s` stands at `base` of the input.
+fn line(printer: &mut Printer, base: u64, s: &[u8], first: usize, f: Frame, tape: &mut [u64]) {
+    let place = base.wrapping_add(first as u64);
+    write!(
+        printer,
+        "{place} channel={} {}",
+        f.channel,
+        name_of(f.frame_type)
+    );
+    match read_frame(s, Cursor { at: first }, tape, 0) {
+        Ok((frame, _)) => match frame.payload {
+            Payload::Command(c) => read_command(printer, s, f.payload, c),
+            Payload::Header(h) => header(printer, s, tape, h),
+            Payload::Body(body) => write!(printer, " size={}", body.len),
+            Payload::Heartbeat => {}
+        },
+        Err(e) => {
+            if let Some(octets) = f.payload.octets_in(s) {
+                refused_payload(printer, octets, f.frame_type);
+            }
+            refused(printer, base, e)
         }
     }
+    printer.put(b'\n');
 }
 
-// Where the name of a frame's type stands in KINDS.
-fn kind_of(f: Frame) -> usize {
-    let frame_type = f.frame_type;
-    match frame_type {
-        FrameType::Method => 0,
-        FrameType::Header => 7,
-        FrameType::Body => 14,
-        FrameType::Heartbeat => 19,
-    }
-}
-
-const KINDS: [u8; 28] = *b"method header body heartbeat";
-
-// The place of a frame, its channel and its type.
-fn beginning(rt: HostRuntime, out: &mut [u8], at: usize, place: u64, f: Frame) -> usize
-    ensures { result ≤ length out.old }
+// The frames of some octets, up to the first that is none or not whole. A payload that is refused does not stop them. The loop goes on
+// where a frame ends, and an iterator of frames would have to be asked for that place behind the loop.
+pub fn frames(printer: &mut Printer, base: u64, s: &[u8], tape: &mut [u64]) -> Walked
+    ensures consumed { result.consumed ≤ length s.now }
+    ensures printed { FitsBuffer printer.new }
 {
-    let start = print::decimal(rt, out, at, place);
-    let channel = labeled(rt, out, start, b" channel=", f.channel as u64);
-    let next = print::put(rt, out, channel, b' ');
-    word(rt, out, next, &KINDS, kind_of(f))
-}
-
-// The line of a frame that was decoded at `first`; the first octet of `s` stands at `base` of the input.
-fn line(
-    rt: HostRuntime,
-    out: &mut [u8],
-    at: usize,
-    names: &[u8],
-    base: u64,
-    s: &[u8],
-    first: usize,
-    f: Frame,
-    tape: &mut [u64],
-) -> usize
-    ensures { result ≤ length out.old }
-{
-    let next = beginning(rt, out, at, wrapping_add_u64(base, first as u64), f);
-    let end = payload_at(rt, out, next, names, base, s, first, f, tape);
-    print::put(rt, out, end, b'\n')
-}
-
-// The frames of some octets, up to the first that is none or not whole; `names` are those of commands. A payload that is refused does not stop them.
-pub fn frames(
-    rt: HostRuntime,
-    out: &mut [u8],
-    at: usize,
-    names: &[u8],
-    base: u64,
-    s: &[u8],
-    tape: &mut [u64],
-) -> Dissected
-    ensures { (result.consumed ≤ length s.now) × (result.next ≤ length out.old) }
-{
-    let mut next = print::inside(out, at);
-    let mut first = 0;
-    let mut count = 0;
-    while first < s.len() {
+    let mut walked = Walked {
+        frames: 0,
+        consumed: 0,
+        refusal: None,
+    };
+    while walked.consumed < s.len() {
+        let first = walked.consumed;
         match decode(s, Cursor { at: first }) {
-            Decoded::Refused(e) => {
-                return Dissected {
-                    frames: count,
-                    consumed: first,
-                    refusal: Stop::Refused(e),
-                    next,
-                };
+            Err(e) => {
+                walked.refusal = Some(e);
+                break;
             }
-            Decoded::Value(f, behind) => {
-                next = line(rt, out, next, names, base, s, first, f, tape);
-                first = behind.at;
-                count += 1;
+            Ok((f, behind)) => {
+                line(printer, base, s, first, f, tape);
+                walked.consumed = behind.at;
+                walked.frames += 1;
             }
         }
     }
-    Dissected {
-        frames: count,
-        consumed: first,
-        refusal: Stop::None,
-        next,
-    }
+    walked
 }

@@ -1,7 +1,7 @@
 -- The laws of self-delimiting frames, from what one frame's writer and one step of the walk promise.
 use mathlib.Core.Path.{◌≡◌, refl, sym, ap, ◌∙◌, subst}
 use mathlib.Core.Bool.{Bool, cond}
-use mathlib.Core.Option.{Option, none, some}
+use Rattle.std.specs.Prelude.{Option, None, Some}
 use mathlib.Core.List.{List, [], ◌∷◌, ◌++◌, map, append_assoc, append_cancel_left, IsPrefix}
 use mathlib.Core.Logic.{◌↔◌}
 use Prim.Native.Nat.{ℕ, zero, suc, ◌+◌, ◌-◌, ◌≤◌, ◌<◌}
@@ -27,7 +27,7 @@ records_of (given x n) = x.tape
 records_of (refused r) = []
 
 abbrev pub part_left : Bool → Option Refusal
-part_left b = cond b (some truncated) none
+part_left b = cond b (Some truncated) None
 
 -- A kind of frame F as its writer has it; L as a step gives it, over tape records; M, its meaning.
 pub record Framing (F L M : Type 0) : Type 1 where
@@ -49,17 +49,17 @@ pub record AtCut {F L M : Type 0} (C : Framing F L M) (s : List ℕ) (gs : List 
   pub records : length w.tape ≡ total C.cost gs
   pub consumed : w.consumed ≡ length (concat_map C.octets_of gs)
   pub refusal : w.refusal ≡ part_left (ltb (length (concat_map C.octets_of gs)) (length s))
-  pub gives : returned C s tape (take (length w.register) register) ≡ map (λ f. some (C.meaning f)) gs
+  pub gives : returned C s tape (take (length w.register) register) ≡ map (λ f. Some (C.meaning f)) gs
 
 module _ {L : Type 0} (step : WalkStep L) where
   -- the walk, one step at a time
-  pub walk_none : (k : ℕ) (s : List ℕ) (p reg room used : ℕ) → length s ≤ p → walk_from step k s p reg room used ≡ ended p none
+  pub walk_none : (k : ℕ) (s : List ℕ) (p reg room used : ℕ) → length s ≤ p → walk_from step k s p reg room used ≡ ended p None
   unfolding walk_from
   walk_none zero s p reg room used h = refl
   walk_none (suc k) s p reg room used h = rw (leb_no (suc p) (length s) (omega arith))
 
   pub walk-stop : (k : ℕ) (s : List ℕ) (p reg room used : ℕ) (r : Refusal) → p < length s → step s p reg room ≡ refused r
-      → walk_from step (suc k) s p reg room used ≡ ended p (some r)
+      → walk_from step (suc k) s p reg room used ≡ ended p (Some r)
   unfolding walk_from
   walk-stop k s p reg room used r h e = rw (leb_yes (suc p) (length s) h, e)
 
@@ -106,7 +106,7 @@ pub record Laws {F L M : Type 0} (C : Framing F L M) : Type 0 where
   pub reads : (f : F) → C.Accepted f → (s : List ℕ) (p reg room used : ℕ) → Stands s p (C.octets_of f) → zero < reg → C.cost f ≤ room
       → C.step s p reg room ≡ whole (frame p used f) (p + length (C.octets_of f)) (recs p f)
   pub views : (f : F) → C.Accepted f → (s : List ℕ) (p used : ℕ) → Stands s p (C.octets_of f)
-      → C.view s (whole (frame p used f) (p + length (C.octets_of f)) (recs p f)) (recs p f) ≡ some (C.meaning f)
+      → C.view s (whole (frame p used f) (p + length (C.octets_of f)) (recs p f)) (recs p f) ≡ Some (C.meaning f)
   pub stops : (f : F) → C.Accepted f → (s : List ℕ) (p reg room used : ℕ) → Cut s p (C.octets_of f)
       → C.step s p reg room ≡ refused truncated
 
@@ -203,11 +203,11 @@ module _ {F L M : Type 0} (C : Framing F L M) (W : Laws C) where
         refusal = part_left (ltb (p + length (concat_map C.octets_of fs)) n);
       }
 
-  expected-none : (p used n : ℕ) → n ≤ p → expected p used n [] ≡ ended p none
+  expected-none : (p used n : ℕ) → n ≤ p → expected p used n [] ≡ ended p None
   unfolding expected
   expected-none p used n h = rw (add-zero p, leb_no (suc p) n (omega arith))
 
-  expected-part : (p used n : ℕ) → p < n → expected p used n [] ≡ ended p (some truncated)
+  expected-part : (p used n : ℕ) → p < n → expected p used n [] ≡ ended p (Some truncated)
   unfolding expected
   expected-part p used n h = rw (add-zero p, leb_yes (suc p) n h)
 
@@ -296,7 +296,7 @@ module _ {F L M : Type 0} (C : Framing F L M) (W : Laws C) where
       (λ m. rw (up_to-none p n f fs (no_leb (p + length (C.octets_of f)) n m)) (f ∷ fs, refl))
 
   reads-back : (gs : List F) → All C.Accepted gs → (s : List ℕ) (tape : List Record) (p used : ℕ) → Stands s p (concat_map C.octets_of gs) → Stands tape used (records p gs)
-      → returned C s tape (entries p used gs) ≡ map (λ f. some (C.meaning f)) gs
+      → returned C s tape (entries p used gs) ≡ map (λ f. Some (C.meaning f)) gs
   unfolding returned
   reads-back [] ax s tape p used h t = refl
   reads-back (f ∷ gs) ax s tape p used h t =
@@ -304,7 +304,7 @@ module _ {F L M : Type 0} (C : Framing F L M) (W : Laws C) where
       let tf = stands-left (W.recs p f) (records (p + length (C.octets_of f)) gs) t in
       let r = W.reads f ax.0 s p 1 (length (W.recs p f)) used hf (omega arith) (omega (arith, W.costs p f)) in
       rw (r, tf.same, W.views f ax.0 s p used hf)
-      (ap (λ (l : List (Option M)). some (C.meaning f) ∷ l)
+      (ap (λ (l : List (Option M)). Some (C.meaning f) ∷ l)
       (reads-back gs ax.1 s tape (p + length (C.octets_of f)) (used + length (W.recs p f))
       (stands-right (C.octets_of f) (concat_map C.octets_of gs) h) (stands-right (W.recs p f) (records (p + length (C.octets_of f)) gs) t)))
 

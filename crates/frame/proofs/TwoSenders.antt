@@ -1,6 +1,6 @@
 -- The theorem of the two senders holds of any two lists of frames that the writers accept: document 01, "frame.rs: frames and the walk".
 use mathlib.Core.Path.{◌≡◌, refl, sym, ap, ◌∙◌}
-use mathlib.Core.Option.{none, some}
+use Rattle.std.specs.Prelude.{None, Some}
 use mathlib.Core.List.{List, [], ◌∷◌, map-map, append-nil, IsPrefix}
 use Prim.Native.Nat.{ℕ, zero, suc, ◌+◌, ◌≤◌}
 use native.Mathlib.Omega.{arith}
@@ -35,7 +35,7 @@ first-all C zero ws = refl
 first-all C (suc n) ws = ap suc (first-all C n (drop C.size ws))
 
 module _ (letters : Letters) (octet : Octets letters) where
-  payload-fit : (pool tape : List ℕ) (x : Payload Pooled Span) → Typed x → payload_refusal letters pool tape x ≡ none → NoNul (sent_payload_meaning letters pool tape x)
+  payload-fit : (pool tape : List ℕ) (x : Payload Pooled Span) → Typed x → payload_refusal letters pool tape x ≡ None → NoNul (sent_payload_meaning letters pool tape x)
       → FitPayload letters (sent_payload_meaning letters pool tape x)
   payload-fit pool tape (command x) t e z = command-fit letters octet pool tape x t e z
   payload-fit pool tape (header x) t e z = header-fit letters octet pool tape x t e
@@ -47,7 +47,7 @@ module _ (letters : Letters) (octet : Octets letters) where
   accepted-fit f a =
       let P = length (frame_payload_octets letters (sent_frame_meaning letters f).payload) in
       let b = or_else-none (payload_refusal letters f.pool f.tape f.payload) (judge_length P) a.passes in
-      let l = yes_leb P 4294967295 (test-none (leb P 4294967295) too_long none b.1).0 in
+      let l = yes_leb P 4294967295 (test-none (leb P 4294967295) too_long None b.1).0 in
       (a.channel, payload-fit f.pool f.tape f.payload a.typed b.0 a.no_nul, omega arith)
 
   -- the senders' frames, and that they meet the laws
@@ -72,7 +72,7 @@ module _ (letters : Letters) (octet : Octets letters) where
         same = λ f g e. ap (octets_of_meaning letters) e;
         costs = λ p f. payload-size letters (sent_frame_meaning letters f).payload f.channel (p + 7);
         reads = λ f a s p slots room used h hs hv. step-here letters (sent_frame_meaning letters f) slots room (accepted-fit f a) hs hv h;
-        views = λ f a s p used h. ap some (frame-meaning letters (sent_frame_meaning letters f) (accepted-fit f a) h);
+        views = λ f a s p used h. ap Some (frame-meaning letters (sent_frame_meaning letters f) (accepted-fit f a) h);
         stops = λ f a s p slots room used c. step_cut letters (sent_frame_meaning letters f) slots room (accepted-fit f a) c;
       }
 
@@ -103,7 +103,7 @@ module _ (letters : Letters) (octet : Octets letters) where
       (held tape_records (λ r. refl) (λ r. refl) w.tape tape (record_count tape_records (splice 0 tw tape)) (rw same-tape tape-fits)) in
       let all : take (length w.register) es ≡ es = take_all (length w.register) es (omega (arith, first-all register_records (length w.register) (splice 0 rw' register))) in
       record {
-        list = list-is s rs es ∙ sym (ap (list.returned sent s rs) all) ∙ b.gives ∙ sym (map-map some (sent_frame_meaning letters) (ending_by letters (length s) xs));
+        list = list-is s rs es ∙ sym (ap (list.returned sent s rs) all) ∙ b.gives ∙ sym (map-map Some (sent_frame_meaning letters) (ending_by letters (length s) xs));
         frames = a.frames;
         consumed = a.consumed;
         refusal = a.refusal;

@@ -1,6 +1,6 @@
 -- The walk step by step, with no fuel, and its outcome in the lent tape and register: what a proof about code goes by.
 use mathlib.Core.Path.{◌≡◌, refl, ◌∙◌}
-use mathlib.Core.Option.{Option, none, some}
+use Rattle.std.specs.Prelude.{Option, None, Some}
 use mathlib.Core.List.{List, [], ◌∷◌, ◌++◌}
 use Prim.Native.Nat.{ℕ, suc, ◌+◌, ◌-◌, ◌*◌, ◌≤◌, ◌<◌}
 use native.Mathlib.Omega.{arith}
@@ -28,10 +28,10 @@ module _ (letters : Letters) where
   on : (s : List ℕ) (p slots room used : ℕ) (l : FrameOf Pooled Span) (n : ℕ) (rs : List Record) → walk_step_at letters s p slots room ≡ given (record { value = l; tape = rs }) n → p < n
   on s p slots room used l n rs e = let a = step_move letters s p slots room (record { value = l; tape = rs }) n e in omega (arith, a.0)
 
-  pub on-end : (s : List ℕ) (p slots room used : ℕ) → length s ≤ p → walk_on s p slots room used ≡ ended p none
+  pub on-end : (s : List ℕ) (p slots room used : ℕ) → length s ≤ p → walk_on s p slots room used ≡ ended p None
   on-end s p slots room used h = walk_none (walk_step_at letters) (length s) s p slots room used h
 
-  pub on-stop : (s : List ℕ) (p slots room used : ℕ) (r : Refusal) → p < length s → walk_step_at letters s p slots room ≡ refused r → walk_on s p slots room used ≡ ended p (some r)
+  pub on-stop : (s : List ℕ) (p slots room used : ℕ) (r : Refusal) → p < length s → walk_step_at letters s p slots room ≡ refused r → walk_on s p slots room used ≡ ended p (Some r)
   on-stop s p slots room used r h e =
       walk-agree (walk_step_at letters) on (length s) (suc (length s)) s p slots room used (omega arith) (omega arith)
       ∙ walk-stop (walk_step_at letters) (length s) s p slots room used r h e

@@ -1,6 +1,6 @@
 -- Frames: 0-9-1, 4.2.3, and document 01, "frame.rs: frames and the walk". Type octet, channel, size, payload, frame end.
 use Rattle.std.specs.Prelude.{Bool, true, cond, List, [], ◌∷◌, ◌++◌, ℕ, ◌+◌, length, get_or, leb, eqb}
-use Rattle.std.proofs.Math.Option.{Option, none, some}
+use Rattle.std.specs.Prelude.{Option, None, Some}
 use Rattle.types.specs.Answer.{Answer, given, truncated, unsupported_field_type, need}
 use Rattle.types.specs.Octets.{number_at, octets}
 use Rattle.types.specs.Strings.{judge_length}
@@ -14,7 +14,7 @@ is_frame_type t = cond (eqb t 1) true (cond (eqb t 2) true (cond (eqb t 3) true 
 
 -- the frame type of an octet, if it is one
 abbrev pub known_type : ℕ → Option ℕ
-known_type t = cond (is_frame_type t) (some t) none
+known_type t = cond (is_frame_type t) (Some t) None
 
 -- CE
 abbrev pub frame_end : ℕ

@@ -1,6 +1,6 @@
 -- Two senders' lists of frames, and the theorem of the two senders, about any two lists and any cut: document 01, "frame.rs: frames and the walk".
 use Rattle.std.specs.Prelude.{◌≡◌, cond, ◌↔◌, ℕ, ◌+◌, ◌^◌, ◌≤◌, ◌<◌, length, take, leb, ltb}
-use Rattle.std.proofs.Math.Option.{none, some}
+use Rattle.std.specs.Prelude.{None, Some}
 use mathlib.Core.List.{List, [], ◌∷◌, map, IsPrefix}
 use Rattle.types.specs.Answer.{truncated}
 use Rattle.types.specs.Records.{concat_map, record_count}
@@ -52,7 +52,7 @@ module _ (letters : Letters) where
   pub record Accepted (f : SentFrame) : Type 0 where
     pub channel : f.channel < 256 ^ 2
     pub typed : Typed f.payload
-    pub passes : frame_refusal letters f ≡ none
+    pub passes : frame_refusal letters f ≡ None
     pub no_nul : NoNul (sent_frame_meaning letters f).payload
 
   -- a list's octets are those of its frames, joined in order
@@ -73,11 +73,11 @@ module _ (letters : Letters) where
 
   -- Of a cut at n with the frames gs that end there or earlier: the walk over the octets s before it
   pub record AtCut (n : ℕ) (gs : List SentFrame) (s : List ℕ) (w : WalkOutcome) : Type 0 where
-    pub list : returned letters s w ≡ map some (meanings gs)
+    pub list : returned letters s w ≡ map Some (meanings gs)
     pub frames : w.frames ≡ length gs
     pub consumed : w.consumed ≡ length (octets gs)
     -- Truncated exactly when a part of a frame is left, and otherwise no refusal
-    pub refusal : w.refusal ≡ cond (ltb (length (octets gs)) n) (some truncated) none
+    pub refusal : w.refusal ≡ cond (ltb (length (octets gs)) n) (Some truncated) None
 
   -- The theorem of the two senders
   pub record TwoSenders (xs ys : List SentFrame) : Type 0 where

@@ -1,6 +1,6 @@
 -- The walk: the step repeated from octet 0, each table taking the tape after the one before; the register; the list returned.
 -- Document 01, "frame.rs: frames and the walk".
-use Rattle.std.proofs.Math.Option.{Option, none, some}
+use Rattle.std.specs.Prelude.{Option, None, Some}
 use Rattle.std.specs.Prelude.{cond, List, [], ◌∷◌, ◌++◌, ℕ, zero, suc, ◌+◌, ◌-◌, length, take, drop, get_or, ltb}
 use Rattle.types.specs.Answer.{Refusal, Answer, given, refused}
 use Rattle.types.specs.Memory.{splice}
@@ -46,15 +46,15 @@ WalkStep A = List ℕ → ℕ → ℕ → ℕ → Answer (WithTape A)
 
 abbrev pub after_step : {A : Type 0} → ℕ → ℕ → Answer (WithTape A) → (List Record → ℕ → WalkResult) → WalkResult
 after_step p used (given x n) rest = push p used x.tape (rest x.tape n)
-after_step p used (refused r) rest = ended p (some r)
+after_step p used (refused r) rest = ended p (Some r)
 
 -- steps until no octet is left or one refuses. At most `fuel` of them: each consumes an octet at least
 unfoldable pub walk_from : {A : Type 0} → WalkStep A → ℕ → List ℕ → ℕ → ℕ → ℕ → ℕ → WalkResult
-walk_from step zero s p slots room used = ended p none
+walk_from step zero s p slots room used = ended p None
 walk_from step (suc fuel) s p slots room used =
     cond (ltb p (length s))
     (after_step p used (step s p slots room) (λ rs n. walk_from step fuel s n (slots - 1) (room - length rs) (used + length rs)))
-    (ended p none)
+    (ended p None)
 
 -- what a walk answers, and the whole of the lent tape and register at exit
 pub record WalkOutcome : Type 0 where
@@ -83,8 +83,8 @@ module _ (letters : Letters) where
 
   -- the meaning of the step's answer at a registered octet, with the tape records registered for it
   abbrev pub meaning_at : List ℕ → Answer (WithTape (FrameOf Pooled Span)) → List Record → Option (FrameOf Meaning (List ℕ))
-  meaning_at s (given x n) rs = some (frame_meaning letters s x.value rs)
-  meaning_at s (refused r) rs = none
+  meaning_at s (given x n) rs = Some (frame_meaning letters s x.value rs)
+  meaning_at s (refused r) rs = None
 
   abbrev pub list_at : List ℕ → List Record → List Entry → List (Option (FrameOf Meaning (List ℕ)))
   list_at s tape [] = []

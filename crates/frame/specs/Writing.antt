@@ -1,5 +1,5 @@
 -- The frame writer: document 01, "frame.rs: frames and the walk". What the reading step returns is what it takes.
-use Rattle.std.proofs.Math.Option.{Option, none}
+use Rattle.std.specs.Prelude.{Option, None}
 use Rattle.std.specs.Prelude.{List, [], ℕ, length}
 use Rattle.types.specs.Answer.{Refusal, truncated}
 use Rattle.types.specs.Strings.{octets_of, judge_length}
@@ -58,8 +58,8 @@ module _ (letters : Letters) where
   abbrev pub payload_refusal : List ℕ → List ℕ → Payload Pooled Span → Option Refusal
   payload_refusal pool tape (command x) = command_refusal letters pool tape x
   payload_refusal pool tape (header x) = header_refusal letters pool tape x
-  payload_refusal pool tape (body v) = test (in_pool pool v.start v.len) truncated none
-  payload_refusal pool tape heartbeat = none
+  payload_refusal pool tape (body v) = test (in_pool pool v.start v.len) truncated None
+  payload_refusal pool tape heartbeat = None
 
   -- what is refused of a frame, given space enough: its payload, then the payload's length
   unfoldable pub frame_refusal : SentFrame → Option Refusal

@@ -9,52 +9,44 @@ ghost use Rattle.frame.specs.AnswerOf.{type_octet, type_of_known, payload_of};
 use method::{Command, ContentHeader};
 use types::Span;
 
-// What a client sends first: "AMQP", 0, 0, 9, 1.
-pub const PROTOCOL_HEADER: [u8; 8] = [65, 77, 81, 80, 0, 0, 9, 1];
+// What a client sends first.
+pub const PROTOCOL_HEADER: [u8; 8] = *b"AMQP\x00\x00\x09\x01";
 
 pub const FRAME_END: u8 = 0xCE;
 
-#[derive(Clone, Copy)]
+// Each with its octet on the wire. No Display: the dissector alone prints one, under a name of its own, and Debug has the Rust's.
+#[derive(Clone, Copy, Debug, PartialEq, Eq)]
 pub enum FrameType {
-    Method,
-    Header,
-    Body,
-    Heartbeat,
-}
-
-#[derive(Clone, Copy)]
-pub enum KnownType {
-    Known(FrameType),
-    Unknown,
+    Method = 1,
+    Header = 2,
+    Body = 3,
+    Heartbeat = 8,
 }
 
 impl FrameType {
-    pub fn from_u8(v: u8) -> KnownType
+    // None for the octet of no frame type. Named as the Rust's, so no TryFrom stands beside it.
+    pub fn from_u8(v: u8) -> Option<FrameType>
         ensures { type_of_known result ≡ known_type v }
     {
         match v {
-            1 => KnownType::Known(FrameType::Method),
-            2 => KnownType::Known(FrameType::Header),
-            3 => KnownType::Known(FrameType::Body),
-            8 => KnownType::Known(FrameType::Heartbeat),
-            _ => KnownType::Unknown,
+            1 => Some(FrameType::Method),
+            2 => Some(FrameType::Header),
+            3 => Some(FrameType::Body),
+            8 => Some(FrameType::Heartbeat),
+            _ => None,
         }
     }
 
+    // No From: `frame_type.octet()` tells what it is where it is called, which `u8::from(frame_type)` would not.
     pub fn octet(self) -> u8
         ensures { result ≡ type_octet self }
     {
-        match self {
-            FrameType::Method => 1,
-            FrameType::Header => 2,
-            FrameType::Body => 3,
-            FrameType::Heartbeat => 8,
-        }
+        self as u8
     }
 }
 
 // A frame in lent octets: its payload is a span of them.
-#[derive(Clone, Copy)]
+#[derive(Clone, Copy, Debug, PartialEq, Eq)]
 pub struct Frame {
     pub frame_type: FrameType,
     pub channel: u16,
@@ -63,7 +55,7 @@ pub struct Frame {
 
 // What a payload holds. The reading step returns it and the frame writer takes it: strings and bodies are spans of a lent pool,
 // which is the input when reading, and a table is records of a lent tape.
-#[derive(Clone, Copy)]
+#[derive(Clone, Copy, Debug, PartialEq, Eq)]
 pub enum Payload {
     Command(Command),
     Header(ContentHeader),

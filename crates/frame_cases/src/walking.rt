@@ -1,142 +1,85 @@
 // The walk: the octets consumed, the number of frames and what stopped it; then the entries of the register and the records of the tape.
-ghost use Rattle.std.specs.Prelude.{◌≤◌, length};
+ghost use Rattle.std.specs.Prelude.{◌≤◌, IfSome};
 
-use cases::answer::{Told, and_number};
+use cases::answer::{and_joined, and_number};
 use cases::{answer, lent};
+use frame_reader::Walked;
 use frame_reader::walk::{ENTRY_WORDS, walk};
-use frame_reader::{Stop, Walked};
-use table_cases::record;
-use tables::tape::RECORD_WORDS;
+use print::Printer;
+use table_cases::{lending, record};
+use tables::tape::{RECORD_WORDS, records_in};
+use types::WireError;
 
 // Words behind the last entry of a register, which are no entry.
 const LOOSE: usize = 2;
 
-// How many words a register of `all` words can lend for so many entries; 0 where that is too many.
-pub fn register_words(entries: usize, all: usize) -> usize
-    ensures { result ≤ all }
+// How many words a register of `all` words can lend for so many entries, if those are not too many.
+pub fn register_words(entries: usize, all: usize) -> Option<usize>
+    ensures { IfSome result (λ n. n ≤ all) }
 {
-    if all < LOOSE {
-        return 0;
-    }
-    if (all - LOOSE) / ENTRY_WORDS < entries {
-        return 0;
-    }
-    entries * ENTRY_WORDS + LOOSE
+    lending::room_for(entries, ENTRY_WORDS, LOOSE, all)
 }
 
-fn of_stop(stop: Stop) -> Told {
-    match stop {
-        Stop::None => answer::values(0, 0, 0, 0, 0),
-        Stop::Refused(e) => answer::refused(e),
+// How many tape records the last of so many entries tells of: those before its frame and its own. None where there is no such entry or
+// number.
+fn records_told(register: &[u64], frames: usize) -> Option<usize> {
+    let Some(last) = frames.checked_sub(1) else {
+        return Some(0);
+    };
+    match register.chunks_exact(ENTRY_WORDS).nth(last)? {
+        [_, before, own] => Some(before.checked_add(*own)? as usize),
+        _ => None,
     }
-}
-
-// Where the sum is too large, more than any memory has.
-fn sum(before: u64, own: u64) -> usize {
-    if u64::MAX - before < own {
-        return usize::MAX;
-    }
-    (before + own) as usize
-}
-
-// How many tape records the last of so many entries tells of: those before its frame and its own.
-fn records_told(register: &[u64], frames: usize) -> usize {
-    if frames == 0 {
-        return 0;
-    }
-    if register.len() / ENTRY_WORDS < frames {
-        return usize::MAX;
-    }
-    let i = (frames - 1) * ENTRY_WORDS;
-    sum(register[i + 1], register[i + 2])
 }
 
 // Whether nothing is changed behind so many entries of the register and records of the tape.
 fn kept(tape: &[u64], records: usize, register: &[u64], frames: usize) -> bool {
-    if tape.len() / RECORD_WORDS < records {
-        return false;
-    }
-    if register.len() / ENTRY_WORDS < frames {
-        return false;
-    }
-    lent::kept_words(tape, records * RECORD_WORDS)
+    records <= records_in(tape)
+        && frames <= register.len() / ENTRY_WORDS
+        && lent::kept_words(tape, records * RECORD_WORDS)
         && lent::kept_words(register, frames * ENTRY_WORDS)
 }
 
-// The words of entry k, joined by `:`, behind a space.
-fn entry(rt: HostRuntime, register: &[u64], k: usize, out: &mut [u8], at: usize) -> usize {
-    if register.len() / ENTRY_WORDS <= k {
-        return print::text(rt, out, at, b" ?");
+// The words of each entry, behind a space.
+fn entries(printer: &mut Printer, register: &[u64], count: usize) {
+    for entry in register.chunks_exact(ENTRY_WORDS).take(count) {
+        and_joined(printer, b' ', entry);
     }
-    let i = k * ENTRY_WORDS;
-    let first = and_number(rt, out, at, b' ', register[i]);
-    let before = and_number(rt, out, first, b':', register[i + 1]);
-    and_number(rt, out, before, b':', register[i + 2])
 }
 
-fn entries(rt: HostRuntime, register: &[u64], count: usize, out: &mut [u8], at: usize) -> usize {
-    let mut next = at;
-    let mut k = 0;
-    while k < count {
-        next = entry(rt, register, k, out, next);
-        k += 1;
+fn records(printer: &mut Printer, tape: &[u64], count: usize) {
+    for record in tape.chunks_exact(RECORD_WORDS).take(count) {
+        record::and_words(printer, record);
     }
-    next
-}
-
-fn records(rt: HostRuntime, tape: &[u64], count: usize, out: &mut [u8], at: usize) -> usize {
-    let mut next = at;
-    let mut k = 0;
-    while k < count {
-        next = record::words(rt, tape, k, out, next);
-        k += 1;
-    }
-    next
 }
 
 // `-` for nothing, or a refusal's number and values, joined by `,`.
-fn and_stop(rt: HostRuntime, stop: Told, out: &mut [u8], at: usize) -> usize {
-    let next = print::put(rt, out, at, b' ');
-    if stop.refusal == 0 {
-        return print::put(rt, out, next, b'-');
+fn and_stop(printer: &mut Printer, stop: Option<WireError>) {
+    printer.put(b' ');
+    match stop {
+        None => printer.put(b'-'),
+        Some(e) => answer::refusal(printer, b',', e),
     }
-    answer::refusal(rt, stop, b',', out, next)
 }
 
-// What was read, if nothing else of tape and register has changed.
-fn shown(
-    rt: HostRuntime,
-    w: Walked,
-    tape: &[u64],
-    register: &[u64],
-    out: &mut [u8],
-    place: usize,
-) -> usize {
-    let frames = w.frames;
-    let stop = w.refusal;
-    let count = records_told(register, frames);
-    if !kept(tape, count, register, frames) {
-        return print::text(rt, out, place, b"# changed");
-    }
-    let start = print::put(rt, out, place, b'=');
-    let consumed = and_number(rt, out, start, b' ', w.consumed as u64);
-    let with_frames = and_number(rt, out, consumed, b' ', frames as u64);
-    let with_stop = and_stop(rt, of_stop(stop), out, with_frames);
-    let with_entries = entries(rt, register, frames, out, with_stop);
-    records(rt, tape, count, out, with_entries)
+fn show(printer: &mut Printer, w: Walked, tape: &[u64], count: usize, register: &[u64]) {
+    printer.put(b'=');
+    and_number(printer, b' ', w.consumed as u64);
+    and_number(printer, b' ', w.frames as u64);
+    and_stop(printer, w.refusal);
+    entries(printer, register, w.frames);
+    records(printer, tape, count);
 }
 
-// The walk over `s`.
-pub fn answer(
-    rt: HostRuntime,
-    s: &[u8],
-    tape: &mut [u64],
-    register: &mut [u64],
-    out: &mut [u8],
-    place: usize,
-) -> usize {
+// The walk over `s`, if nothing else of tape and register has changed.
+pub fn answer(printer: &mut Printer, s: &[u8], tape: &mut [u64], register: &mut [u64]) {
     lent::fill_words(tape);
     lent::fill_words(register);
     let w = walk(s, tape, register);
-    shown(rt, w, tape, register, out, place)
+    match records_told(register, w.frames) {
+        Some(count) if kept(tape, count, register, w.frames) => {
+            show(printer, w, tape, count, register)
+        }
+        _ => printer.text(b"# changed"),
+    }
 }

@@ -1,8 +1,7 @@
 -- Fields of a fixed size are read up to the end of the octets, and so is a command that has them; a frame with one is a step of the walk.
 use mathlib.Core.Path.{◌≡◌, refl, sym, ap, ◌∙◌}
-use mathlib.Core.Logic.{⊎_elim}
 use mathlib.Core.Bool.{Bool, true}
-use mathlib.Core.Option.{some}
+use Rattle.std.specs.Prelude.{Some}
 use mathlib.Core.List.{List, [], ◌∷◌}
 use Prim.Native.Nat.{ℕ, ◌+◌, ◌-◌, ◌*◌, ◌/◌, ◌%◌, ◌≤◌, ◌<◌}
 use native.Mathlib.Nat.{sub-zero}
@@ -39,11 +38,11 @@ record ReadToEnd (fs : List Field) (s : List ℕ) (p room : ℕ) : Type 0 where
 
 -- The last octet
 
-one-flag : (n : ℕ) → n ≤ 1 → flags_in (true ∷ []) n ≡ some (eqb (n % 2) 1, tt)
+one-flag : (n : ℕ) → n ≤ 1 → flags_in (true ∷ []) n ≡ Some (eqb (n % 2) 1, tt)
 unfolding flags_in
 one-flag n h = let z : n / 2 ≡ 0 = omega arith in rw z
 
-two-flags : (n : ℕ) → n ≤ 3 → flags_in (true ∷ true ∷ []) n ≡ some (eqb (n % 2) 1, (eqb (n / 2 % 2) 1, tt))
+two-flags : (n : ℕ) → n ≤ 3 → flags_in (true ∷ true ∷ []) n ≡ Some (eqb (n % 2) 1, (eqb (n / 2 % 2) 1, tt))
 unfolding flags_in
 two-flags n h = let z : n / 2 / 2 ≡ 0 = omega arith in rw z
 
@@ -52,7 +51,7 @@ module _ (s : List ℕ) (p room : ℕ) (end : p + 1 ≡ length s) where
   unfolding fields_at tape_of fixed_at same
   zero-read z = record { args = tt; read = rw (span-here 1 s p (omega arith), drop-cons s p 0 (omega arith), z) (ap (given tt) end); empty = refl }
 
-  flags-read : (places : List Bool) (found : Flags places) → flags_in places (get_or s p 0) ≡ some found → ReadToEnd (arg (bits places) ∷ []) s p room
+  flags-read : (places : List Bool) (found : Flags places) → flags_in places (get_or s p 0) ≡ Some found → ReadToEnd (arg (bits places) ∷ []) s p room
   unfolding fields_at tape_of arg_at number_at
   flags-read places found f =
       let here : get_or s (p + 0) 0 ≡ get_or s p 0 = ap (λ (i : ℕ). get_or s i 0) (omega arith) in
@@ -158,5 +157,5 @@ module _
       payload-given errata s at used n tape register decoded free
       (sym (method-records errata s frame (behind + 1) used tape type ∙ ap (framed (λ u. u) (behind + 1)) (command-read four k f used tape))) refl
 
-  pub fixed_frame : number_at 4 s (at + 3) < 4294967296 → SizeOf (number_at 4 s (at + 7)) size → FixedFrame s at (behind + 1)
-  fixed_frame h z = ⊎_elim (λ e. absurd (omega arith)) (λ k. sized k.0 k.1 k.2) z
+  pub fixed_frame : SizeOf (number_at 4 s (at + 7)) (Some size) → FixedFrame s at (behind + 1)
+  fixed_frame z = sized z.0 z.1 z.2

@@ -1,6 +1,6 @@
 -- The loop of the walk: what is left to do, done from here, is the whole walk.
 use mathlib.Core.Path.{◌≡◌, refl, sym, ap, ◌∙◌}
-use mathlib.Core.Option.{none, some}
+use Rattle.std.specs.Prelude.{None, Some}
 use mathlib.Core.List.{List, [], ◌∷◌}
 use Prim.Native.Nat.{ℕ, ◌+◌, ◌-◌, ◌*◌, ◌≤◌, ◌<◌}
 use native.Mathlib.Omega.{arith}
@@ -48,7 +48,7 @@ module _ (letters : Letters) where
       }
 
   abbrev stopped : List ℕ → List ℕ → ℕ → ℕ → Refusal → WalkOutcome
-  stopped tape register at k r = record { frames = k; consumed = at; refusal = some r; tape = tape; register = register }
+  stopped tape register at k r = record { frames = k; consumed = at; refusal = Some r; tape = tape; register = register }
 
   -- what a step that gave a frame has left
   record Went {A : Type 0} (at used k : ℕ) (tape register : List ℕ) (a : Answer (WithTape A)) (own n : ℕ) (after entered : List ℕ) : Type 0 where
@@ -71,9 +71,9 @@ module _ (letters : Letters) where
     step = walk_step_at letters s at (slots_of k register) (room_of used tape)
 
     -- no octet is left
-    pub finish : length s ≤ at → record { frames = k; consumed = at; refusal = none; tape = tape; register = register } ≡ walk letters s tape₀ register₀
+    pub finish : length s ≤ at → record { frames = k; consumed = at; refusal = None; tape = tape; register = register } ≡ walk letters s tape₀ register₀
     finish h =
-        sym (outcome-end used k tape register at none)
+        sym (outcome-end used k tape register at None)
         ∙ ap (outcome_from used k tape register) (sym (on-end letters s at (slots_of k register) (room_of used tape) used h))
         ∙ go.whole
 
@@ -89,7 +89,7 @@ module _ (letters : Letters) where
               let et : after ≡ tape = cc in
               let eg : entered ≡ register = cc in
               rw (er, et, eg)
-              (sym (outcome-end used k tape register at (some p))
+              (sym (outcome-end used k tape register at (Some p))
               ∙ ap (outcome_from used k tape register) (sym (on-stop letters s at (slots_of k register) (room_of used tape) used p h t))
               ∙ go.whole)
 

@@ -1,7 +1,8 @@
 -- From what the readers in words leave to what the reading step leaves, in words and as a payload, and to what the walk counts.
 use mathlib.Core.Path.{◌≡◌, refl, sym, ap, ◌∙◌}
-use mathlib.Core.Logic.{inl}
-use mathlib.Core.Option.{some}
+use mathlib.Core.Logic.{◌⊎◌, inl}
+use Rattle.std.specs.Prelude.{Some, Result, Ok, Err}
+use Rattle.std.specs.Result.{IsOk}
 use mathlib.Core.List.{List, [], ◌∷◌, ◌++◌}
 use Prim.Native.Nat.{ℕ, zero, suc, ◌+◌, ◌-◌, ◌%◌, ◌<◌}
 use native.Mathlib.Nat.{mod-eq_of_lt}
@@ -10,10 +11,10 @@ use lib.Dec.{lit<, leb, eqb}
 use lib.ListN.{length, take, drop, length-append, length-drop}
 use lib.Seq.{take-append_seam}
 use Rattle.types.specs.Answer.{Refusal, Answer, given, refused, not_written}
-use Rattle.types.specs.Memory.{Outcome, outcome}
-use Rattle.types.specs.declared.Cursor.{Cursor}
-use Rattle.types.specs.declared.Span.{Span}
+use Rattle.types.specs.AnswerOf.{or_refusal}
 use Rattle.types.specs.declared.WireError.{WireError}
+use Rattle.types.specs.Memory.{Outcome, outcome}
+use Rattle.types.specs.declared.Span.{Span}
 use Rattle.types.proofs.Chain.{then-go, need-given, given-value}
 use Rattle.types.proofs.NumberLaws.{Octets}
 use Rattle.types.proofs.Tests.{decide}
@@ -29,20 +30,14 @@ use Rattle.method.proofs.LayoutLaws.{command-widths}
 use Rattle.method.proofs.WordLaws.{length-words}
 use Rattle.method_words.specs.Words.{call_of, header_words, command_with, header_with}
 use Rattle.method_words.specs.InWords.{WordsOutcome, words_outcome, in_words}
-use Rattle.method_words.proofs.InWordsLaws.{at-case, refused-too, ReadToo, read-too}
+use Rattle.method_words.proofs.InWordsLaws.{refused-too, ReadToo, read-too}
 use Rattle.method_reader.proofs.KeptLaws.{filled-value, command-kept, header-kept}
 use Rattle.payload_words.specs.Words.{call_words, content_header_words, payload_words, command_or, payload_from}
-use Rattle.payload_words.specs.AnswerOf.{answer_of_payload}
-use Rattle.payload_words.specs.declared.PayloadFrom.{PayloadFrom}
-use Rattle.payload_words.specs.declared.PayloadFrom.TheVariants as from
 use Rattle.frame.specs.Frame.{decode_at}
-use Rattle.frame.specs.Step.{Payload, command, header, body, heartbeat, FrameOf, payload_with_tape, payload_at, frame_with_payload_at, step_at, read_frame}
 use Rattle.frame.specs.AnswerOf.{payload_of}
 use Rattle.frame.specs.declared.Payload.{Payload as CodePayload}
+use Rattle.frame.specs.Step.{Payload, command, header, body, heartbeat, FrameOf, payload_with_tape, payload_at, frame_with_payload_at, step_at, read_frame}
 use Rattle.frame_reader.specs.Words.{FrameWords, frame_words, with_channel}
-use Rattle.frame_reader.specs.AnswerOf.{answer_of_frame_words}
-use Rattle.frame_reader.specs.declared.ReadFrameWords.{ReadFrameWords}
-use Rattle.frame_reader.specs.declared.ReadFrameWords.TheVariants as frame-read
 use Rattle.frame_reader.proofs.StepLaws.{framed, records-framed}
 
 -- A payload's words, from those that its reader was lent
@@ -91,13 +86,11 @@ counted_words : {A B : Type 0} (f : A → B) (words : B → List ℕ) (before : 
 counted_words f words before (outcome (given x n) t) = refl
 counted_words f words before (outcome (refused r) t) = refl
 
--- from the case of an answer that a match has found
-pub records-case : {R A B C : Type 0} (answer_of : R → List ℕ → Answer (WithCount B)) (f : A → B) (words : B → List ℕ) (g : A → C) (next : ℕ) (lent : List ℕ) (o : Outcome (WithCount A)) {r k : R} {w t : List ℕ} {whole : Outcome (WithCount C)}
-    → whole ≡ framed g next o → words_outcome (answer_of r w) w t ≡ in_words f words lent o → r ≡ k
-    → framed (λ u. u) next (counted (words_outcome (answer_of k w) w t)) ≡ records_only whole
-records-case answer_of f words g next lent o {w = w} {t = t} h e q =
-    ap (λ k. framed (λ u. u) next (counted (words_outcome (answer_of k w) w t))) (sym q)
-    ∙ ap (λ y. framed (λ u. u) next (counted y)) e
+pub records-counted : {A B C : Type 0} (f : A → B) (words : B → List ℕ) (g : A → C) (next : ℕ) (lent : List ℕ) (o : Outcome (WithCount A)) {a : Answer (WithCount B)} {w t : List ℕ} {whole : Outcome (WithCount C)}
+    → whole ≡ framed g next o → words_outcome a w t ≡ in_words f words lent o
+    → framed (λ u. u) next (counted (words_outcome a w t)) ≡ records_only whole
+records-counted f words g next lent o h e =
+    ap (λ y. framed (λ u. u) next (counted y)) e
     ∙ ap (framed (λ u. u) next) (counted_words f words lent o)
     ∙ sym (ap records_only h ∙ records-framed g next o)
 
@@ -114,7 +107,7 @@ eight-words (call c m vs) =
     let ws = args_words (fields_of c m) vs in
     omega (arith, length-append ws (drop (length ws) (zeros 8)), length-drop (length ws) (zeros 8), length-words (fields_of c m) vs, command-widths c m)
 
-command-from : (x : Command Pooled) → command_with (call_of x).class (call_of x).method (call_of x).words ≡ some x
+command-from : (x : Command Pooled) → command_with (call_of x).class (call_of x).method (call_of x).words ≡ Some x
     → payload_from (call_words (call_of x)) ≡ inl (command x)
 command-from x e =
     let ws = (call_of x).words in
@@ -172,30 +165,27 @@ frame-kept letters s at used tape o x k n memory e =
 
 -- the step, from the step in words
 
-module _ (letters : Letters) (s : List ℕ) (at used : ℕ) (tape : List ℕ) (r : ReadFrameWords) (w t before : List ℕ)
-    (h : words_outcome (answer_of_frame_words r w) w t ≡ in_words frame_words (λ x. x.payload) before (read_frame letters s at used tape)) where
-  module _ (channel k : ℕ) (next : Cursor) (same : r ≡ frame-read.Value channel k next) (p : PayloadFrom) (made : answer_of_payload p ≡ payload_from w) where
-    read : ReadToo frame_words (read_frame letters s at used tape) (record { channel = channel; payload = w }) k next.at t
-    read =
-        read-too frame_words (λ x. x.payload) before (read_frame letters s at used tape) (record { channel = channel; payload = w }) k next.at w t
-        (at-case answer_of_frame_words h same)
+module _ (letters : Letters) (s : List ℕ) (at used : ℕ) (tape w t before : List ℕ) (channel k n : ℕ)
+    (h : words_outcome (given (record { value = record { channel = channel; payload = w }; count = k }) n) w t ≡ in_words frame_words (λ x. x.payload) before (read_frame letters s at used tape)) (o : Octets s) where
+  read : ReadToo frame_words (read_frame letters s at used tape) (record { channel = channel; payload = w }) k n t
+  read = read-too frame_words (λ x. x.payload) before (read_frame letters s at used tape) (record { channel = channel; payload = w }) k n w t h
 
-    words : w ≡ payload_words read.value.payload
-    words = ap (λ (x : FrameWords). x.payload) read.made
+  words : w ≡ payload_words read.value.payload
+  words = ap (λ (x : FrameWords). x.payload) read.made
 
-    is-payload : Octets s → answer_of_payload p ≡ inl read.value.payload
-    is-payload o =
-        made ∙ ap payload_from words ∙ frame-kept letters s at used tape o read.value k next.at t read.read
+  is-payload : {p : Payload Pooled Span ⊎ Refusal} → p ≡ payload_from w → p ≡ inl read.value.payload
+  is-payload made = made ∙ ap payload_from words ∙ frame-kept letters s at used tape o read.value k n t read.read
 
-    pub frame_made : (y : CodePayload) → p ≡ from.Value y → Octets s
-        → outcome (given (record { value = record { channel = channel; payload = payload_of y }; count = k }) next.at) t ≡ read_frame letters s at used tape
-    frame_made y e o =
-        let there = ap answer_of_payload (sym e) ∙ is-payload o in
-        let value : payload_of y ≡ read.value.payload = cc in
-        let on : channel ≡ read.value.channel = ap (λ (x : FrameWords). x.channel) read.made in
-        ap (λ (x : Payload Pooled Span). outcome (given (record { value = record { channel = channel; payload = x }; count = k }) next.at) t) value
-        ∙ ap (λ (c : ℕ). outcome (given (record { value = record { channel = c; payload = read.value.payload }; count = k }) next.at) t) on
-        ∙ sym read.read
+  pub frame_made : {y : Payload Pooled Span} → inl y ≡ payload_from w
+      → outcome (given (record { value = record { channel = channel; payload = y }; count = k }) n) t ≡ read_frame letters s at used tape
+  frame_made {y} made =
+      let there = is-payload made in
+      let value : y ≡ read.value.payload = cc in
+      let on : channel ≡ read.value.channel = ap (λ (x : FrameWords). x.channel) read.made in
+      ap (λ (x : Payload Pooled Span). outcome (given (record { value = record { channel = channel; payload = x }; count = k }) n) t) value
+      ∙ ap (λ (c : ℕ). outcome (given (record { value = record { channel = c; payload = read.value.payload }; count = k }) n) t) on
+      ∙ sym read.read
 
-    pub frame-unmade : {G : Type 0} (e : WireError) → p ≡ from.Refused e → Octets s → G
-    frame-unmade e q o = let there = ap answer_of_payload (sym q) ∙ is-payload o in let z : ◌≡◌ {A = ℕ} 0 1 = cc in absurd (omega arith)
+  pub frame_there : (r : Result CodePayload WireError) → or_refusal payload_of r ≡ payload_from w → IsOk r
+  frame_there (Ok y) made = refl
+  frame_there (Err e) made = let there = is-payload made in let z : ◌≡◌ {A = ℕ} 0 1 = cc in absurd (omega arith)

@@ -1,5 +1,5 @@
 -- Commands of a fixed size, which are accepted by their number of octets and the last octet alone, and what the walk makes of a frame that has one.
-use Rattle.std.specs.Prelude.{◌≡◌, ◌⊎◌, true, List, [], ◌∷◌, ℕ, ◌+◌, ◌-◌, ◌*◌, ◌/◌, ◌%◌, ◌≤◌, ◌<◌}
+use Rattle.std.specs.Prelude.{◌≡◌, Option, None, Some, true, List, [], ◌∷◌, ℕ, ◌+◌, ◌-◌, ◌*◌, ◌/◌, ◌%◌, ◌≤◌, ◌<◌}
 use Rattle.types.specs.Answer.{given}
 use Rattle.types.specs.Memory.{splice}
 use Rattle.types.specs.Records.{record_count}
@@ -21,11 +21,10 @@ pub data FixedFields : List Field → ℕ → ℕ → Type 0 where
   flags : FixedFields (arg (bits (true ∷ true ∷ [])) ∷ []) 1 3
   number : {fs : List Field} {octets last : ℕ} (k : ℕ) → FixedFields fs octets last → FixedFields (arg (field.number k) ∷ fs) (k + octets) last
 
--- the size of the command with class and method in one number of four octets; what is longer than any payload says nothing
-abbrev pub SizeOf : ℕ → FixedSize → Type 0
-SizeOf ids r =
-    (4294967295 < r.len)
-    ⊎ ((known (ids / 65536) (ids % 65536) ≡ true) × (4 ≤ r.len) × FixedFields (fields_of (ids / 65536) (ids % 65536)) (r.len - 4) r.last)
+-- the size of the command with class and method in one number of four octets, where it has one
+abbrev pub SizeOf : ℕ → Option FixedSize → Type 0
+SizeOf ids None = Unit
+SizeOf ids (Some r) = (known (ids / 65536) (ids % 65536) ≡ true) × (4 ≤ r.len) × FixedFields (fields_of (ids / 65536) (ids % 65536)) (r.len - 4) r.last
 
 -- a frame stands there that the walk reads, up to `next` and with no tape records, where its register has room
 abbrev pub FixedFrame : List ℕ → ℕ → ℕ → Type 0

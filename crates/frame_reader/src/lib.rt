@@ -1,4 +1,5 @@
-// Readers of frames: the decoder, the reading step, and the walk over octets of any number of frames.
+// Readers of frames: the decoder, the reading step, and the walk over octets of any number of frames. A tape and the number of its records
+// that are used are two parameters, since C lends them apart, and after a refusal there is nothing to put back.
 #![tactic(auto)]
 
 pub mod decode;
@@ -7,41 +8,28 @@ pub mod step;
 pub mod walk;
 pub mod words;
 
-use frame::{Frame, Payload};
-use types::{Cursor, WireError};
+use frame::Payload;
+use types::WireError;
 
-// A frame, and the cursor after it.
+// Channel and payload of a frame that was read, and the number of its tape records.
 #[derive(Clone, Copy)]
-pub enum Decoded {
-    Value(Frame, Cursor),
-    Refused(WireError),
+pub struct ReadFrame {
+    pub channel: u16,
+    pub payload: Payload,
+    pub records: usize,
 }
 
-// Channel and payload of a frame that was read, the number of its tape records, and the cursor after it.
+// A frame in words: its channel, and the number of its tape records. Its payload is in the words lent.
 #[derive(Clone, Copy)]
-pub enum ReadFrame {
-    Value(u16, Payload, usize, Cursor),
-    Refused(WireError),
+pub struct ReadFrameWords {
+    pub channel: u16,
+    pub records: usize,
 }
 
-// A frame in words: its channel, the number of its tape records, and the cursor after it. Its payload is in the words lent.
-#[derive(Clone, Copy)]
-pub enum ReadFrameWords {
-    Value(u16, usize, Cursor),
-    Refused(WireError),
-}
-
-// None, or the refusal that stopped the walk.
-#[derive(Clone, Copy)]
-pub enum Stop {
-    None,
-    Refused(WireError),
-}
-
-// What the walk always ends with: frames read, octets consumed, and why it stopped.
+// What the walk always ends with: frames read, octets consumed, and the refusal that stopped it, if one did.
 #[derive(Clone, Copy)]
 pub struct Walked {
     pub frames: usize,
     pub consumed: usize,
-    pub refusal: Stop,
+    pub refusal: Option<WireError>,
 }

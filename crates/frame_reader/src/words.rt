@@ -12,16 +12,14 @@ ghost use Rattle.frame.specs.AnswerOf.{frame_of};
 ghost use Rattle.frame_reader.specs.Words.{frame_words, with_channel};
 ghost use Rattle.frame_reader.specs.AnswerOf.{answer_of_payload_words, answer_of_frame_words};
 
+use crate::ReadFrameWords;
 use crate::decode::decode;
-use crate::{Decoded, ReadFrameWords};
 use frame::{Frame, FrameType};
 use method_reader::commands::read_call;
 use method_reader::headers::read_header_words;
-use method_reader::{ReadCall, ReadHeaderWords};
 use method_words::{Call, HeaderWords};
 use payload_words::{body_words, call_words, content_header_words, heartbeat_words};
-use table_reader::ReadRecords;
-use types::{Cursor, WireError};
+use types::{Cursor, Read, Span, WireError};
 
 // A command that ends with the octets.
 fn read_method(
@@ -30,21 +28,17 @@ fn read_method(
     tape: &mut [u64],
     used: usize,
     payload: &mut [u64; 26],
-) -> ReadRecords
+) -> Read<usize>
     ensures { words_outcome (answer_of_payload_words result payload.new) payload.new tape.new ≡ in_words (λ x. call_words (call_of x)) (λ w. w) payload.old (read_command errata s.now at.at used tape.old) }
 {
     let mut words = [0u64; 8];
-    match read_call(s, at, tape, used, &mut words) {
-        ReadCall::Refused(e) => ReadRecords::Refused(e),
-        ReadCall::Value(class, method, records, next) => {
-            *payload = call_words(Call {
-                class,
-                method,
-                words,
-            });
-            ReadRecords::Value(records, next)
-        }
-    }
+    let (call, next) = read_call(s, at, tape, used, &mut words)?;
+    *payload = call_words(Call {
+        class: call.class,
+        method: call.method,
+        words,
+    });
+    Ok((call.records, next))
 }
 
 fn read_header(
@@ -53,32 +47,26 @@ fn read_header(
     tape: &mut [u64],
     used: usize,
     payload: &mut [u64; 26],
-) -> ReadRecords
+) -> Read<usize>
     ensures { words_outcome (answer_of_payload_words result payload.new) payload.new tape.new ≡ in_words (λ x. content_header_words (header_words x)) (λ w. w) payload.old (read_header errata s.now at.at used tape.old) }
 {
     let mut words = [0u64; 22];
-    match read_header_words(s, at, tape, used, &mut words) {
-        ReadHeaderWords::Refused(e) => ReadRecords::Refused(e),
-        ReadHeaderWords::Value(class, body_size, present, records, next) => {
-            *payload = content_header_words(HeaderWords {
-                class,
-                body_size,
-                present,
-                words,
-            });
-            ReadRecords::Value(records, next)
-        }
-    }
+    let (header, next) = read_header_words(s, at, tape, used, &mut words)?;
+    *payload = content_header_words(HeaderWords {
+        class: header.class,
+        body_size: header.body_size,
+        present: header.present,
+        words,
+    });
+    Ok((header.records, next))
 }
 
 // What was read of a payload, as the answer of its frame.
-fn frame_of(channel: u16, next: Cursor, payload: ReadRecords) -> ReadFrameWords
+fn frame_of(channel: u16, next: Cursor, payload: Read<usize>) -> Read<ReadFrameWords>
     ensures { (w : List ℕ) → answer_of_frame_words result w ≡ with_channel channel next.at (answer_of_payload_words payload w) }
 {
-    match payload {
-        ReadRecords::Refused(e) => ReadFrameWords::Refused(e),
-        ReadRecords::Value(records, _) => ReadFrameWords::Value(channel, records, next),
-    }
+    let (records, _) = payload?;
+    Ok((ReadFrameWords { channel, records }, next))
 }
 
 // The payload of a frame that was decoded. Its readers are given the octets up to its end, so places count from the first octet.
@@ -89,41 +77,31 @@ fn read_payload(
     tape: &mut [u64],
     used: usize,
     payload: &mut [u64; 26],
-) -> ReadFrameWords
+) -> Read<ReadFrameWords>
     requires { frame.payload.start + frame.payload.len ≤ length s.now }
     ensures { words_outcome (answer_of_frame_words result payload.new) payload.new tape.new ≡ in_words frame_words (λ x. x.payload) payload.old (fill_tape used tape.old (frame_with_payload_at errata s.now (frame_of frame) next.at (room_of used tape.old))) }
 {
     let channel = frame.channel;
-    let span = frame.payload;
-    let start = span.start;
-    let end = start + span.len;
+    let Span { start, len } = frame.payload;
     let at = Cursor { at: start };
-    let frame_type = frame.frame_type;
-    match frame_type {
-        FrameType::Method => {
-            frame_of(
-                channel,
-                next,
-                read_method(&s[..end], at, tape, used, payload),
-            )
-        }
-        FrameType::Header => {
-            frame_of(
-                channel,
-                next,
-                read_header(&s[..end], at, tape, used, payload),
-            )
-        }
+    let part = &s[..start + len];
+    let without_records = ReadFrameWords {
+        channel,
+        records: 0,
+    };
+    match frame.frame_type {
+        FrameType::Method => { frame_of(channel, next, read_method(part, at, tape, used, payload)) }
+        FrameType::Header => { frame_of(channel, next, read_header(part, at, tape, used, payload)) }
         FrameType::Body => {
-            *payload = body_words(span);
-            ReadFrameWords::Value(channel, 0, next)
+            *payload = body_words(frame.payload);
+            Ok((without_records, next))
         }
         FrameType::Heartbeat => {
-            if start < end {
-                return ReadFrameWords::Refused(WireError::NotWritten(start));
+            if 0 < len {
+                return Err(WireError::NotWritten(start));
             }
             *payload = heartbeat_words();
-            ReadFrameWords::Value(channel, 0, next)
+            Ok((without_records, next))
         }
     }
 }
@@ -135,11 +113,9 @@ pub fn read_frame_words(
     tape: &mut [u64],
     used: usize,
     payload: &mut [u64; 26],
-) -> ReadFrameWords
+) -> Read<ReadFrameWords>
     ensures { words_outcome (answer_of_frame_words result payload.new) payload.new tape.new ≡ in_words frame_words (λ x. x.payload) payload.old (read_frame errata s.now at.at used tape.old) }
 {
-    match decode(s, at) {
-        Decoded::Refused(e) => ReadFrameWords::Refused(e),
-        Decoded::Value(frame, next) => read_payload(s, frame, next, tape, used, payload),
-    }
+    let (frame, next) = decode(s, at)?;
+    read_payload(s, frame, next, tape, used, payload)
 }

@@ -8,10 +8,7 @@ ghost use Rattle.frame_writer.specs.Parts.{frame_head};
 
 use frame::{FRAME_END, FrameType};
 use types::WireError;
-use writers::{Written, write_octets, write_u8, write_u16, write_u32};
-
-// The greatest length of a payload.
-pub(crate) const MAX_LENGTH: usize = 0xFFFF_FFFF;
+use writers::{MAX_LENGTH, Written, has_octets, write_octets, write_u8, write_u16, write_u32};
 
 // Type octet, channel, size and frame end around a payload of `len` octets that stands behind the first seven.
 pub(crate) fn close_frame(
@@ -24,10 +21,10 @@ pub(crate) fn close_frame(
     requires { (at + len + 8 ≤ length out.old) × (len ≤ 4294967295) }
     ensures { out.new ≡ splice (at + 7 + len) (frame_end ∷ []) (splice at (frame_head (type_octet frame_type) channel len) out.old) }
 {
-    write_u8(out, at, frame_type.octet());
-    write_u16(out, at + 1, channel);
-    write_u32(out, at + 3, (len % 0x1_0000_0000) as u32);
-    write_u8(out, at + 7 + len, FRAME_END);
+    write_u8(out, at, frame_type.octet()).unwrap();
+    write_u16(out, at + 1, channel).unwrap();
+    write_u32(out, at + 3, (len % 0x1_0000_0000) as u32).unwrap();
+    write_u8(out, at + 7 + len, FRAME_END).unwrap();
 }
 
 // Writes a frame at a place of the output: the payload's length is judged, then the space.
@@ -42,15 +39,12 @@ pub fn encode(
 {
     let len = payload.len();
     if MAX_LENGTH < len {
-        return Written::Refused(WireError::TooLong);
+        return Err(WireError::TooLong);
     }
-    if out.len() < at {
-        return Written::Refused(WireError::NoSpace);
+    if !has_octets(out, at, len + 8) {
+        return Err(WireError::NoSpace);
     }
-    if out.len() - at < len + 8 {
-        return Written::Refused(WireError::NoSpace);
-    }
-    write_octets(out, at + 7, payload);
+    write_octets(out, at + 7, payload).unwrap();
     close_frame(out, at, frame_type, channel, len);
-    Written::Next(at + len + 8)
+    Ok(at + len + 8)
 }

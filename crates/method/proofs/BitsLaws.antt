@@ -1,7 +1,7 @@
 -- The laws of a bit octet.
 use mathlib.Core.Path.{◌≡◌, refl}
 use mathlib.Core.Bool.{Bool, true, false}
-use mathlib.Core.Option.{Option, none, some}
+use Rattle.std.specs.Prelude.{Option, None, Some}
 use mathlib.Core.List.{List, [], ◌∷◌}
 use Prim.Native.Nat.{ℕ, ◌+◌, ◌*◌, ◌^◌, ◌/◌, ◌%◌, ◌≤◌, ◌<◌}
 use native.Mathlib.Omega.{arith}
@@ -22,8 +22,8 @@ use Rattle.method.proofs.Kind.{KindLaws}
 use Rattle.method.proofs.NumberLaws.{nothing-long}
 
 pub written_next : {A : Type 0} (p : ℕ) (o : Option A) (q : ℕ) (a : A) (n : ℕ) → written_at p o q ≡ given a n → q ≡ n
-written_next p none q a n e = let z : ◌≡◌ {A = ℕ} 0 1 = cc in absurd (omega arith)
-written_next p (some x) q a n e = given-next x a q n e
+written_next p None q a n e = let z : ◌≡◌ {A = ℕ} 0 1 = cc in absurd (omega arith)
+written_next p (Some x) q a n e = given-next x a q n e
 
 bit-odd : (b : Bool) (n : ℕ) → eqb ((bit b + 2 * n) % 2) 1 ≡ b
 bit-odd true n = let e : (1 + 2 * n) % 2 ≡ 1 = omega arith in rw e
@@ -33,7 +33,7 @@ bit-half : (b : Bool) (n : ℕ) → (bit b + 2 * n) / 2 ≡ n
 bit-half true n = omega arith
 bit-half false n = omega arith
 
-pub flags-back : (places : List Bool) (flags : Flags places) → flags_in places (octet_of places flags) ≡ some flags
+pub flags-back : (places : List Bool) (flags : Flags places) → flags_in places (octet_of places flags) ≡ Some flags
 unfolding octet_of flags_in
 flags-back [] flags = refl
 flags-back (false ∷ places) flags =

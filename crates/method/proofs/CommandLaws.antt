@@ -3,7 +3,7 @@
 -- a spare octet are NotWritten at their places, wherever they stand in a command.
 use mathlib.Core.Path.{◌≡◌}
 use mathlib.Core.Bool.{Bool, true, false}
-use mathlib.Core.Option.{none}
+use Rattle.std.specs.Prelude.{None}
 use mathlib.Core.List.{List, [], ◌∷◌, ◌++◌}
 use Prim.Native.Nat.{ℕ, ◌+◌, ◌-◌, ◌*◌, ◌^◌, ◌≤◌, ◌<◌}
 use native.Mathlib.Omega.{arith}
@@ -79,7 +79,7 @@ module _ (letters : Letters) where
           arguments-refused room (not_written here) ids
           (rw e (fields-later gs (fixed xs ∷ hs) vs room (not_written here) f k before (fields-differ letters xs ys hs (room - values_in gs vs) h l d)))
 
-      pub bit-set : (places : List Bool) (n : ℕ) → fields_of c m ≡ gs ++ (arg (bits places) ∷ hs) → n < 256 → Stands s here (octets 1 n) → flags_in places n ≡ none
+      pub bit-set : (places : List Bool) (n : ℕ) → fields_of c m ≡ gs ++ (arg (bits places) ∷ hs) → n < 256 → Stands s here (octets 1 n) → flags_in places n ≡ None
           → command_at letters s p room ≡ refused (not_written here)
       bit-set places n e b h d =
           arguments-refused room (not_written here) ids
@@ -144,7 +144,7 @@ module _ (letters : Letters) where
 -- What a writer accepts
 
 module _ (letters : Letters) (octet : Octets letters) (pool tape : List ℕ) where
-  module _ (x : Command Pooled) (typed : TypedCommand x) (accepted : command_refusal letters pool tape x ≡ none) (no_nul : NoNulCommand (pooled_command_meaning letters pool tape x)) where
+  module _ (x : Command Pooled) (typed : TypedCommand x) (accepted : command_refusal letters pool tape x ≡ None) (no_nul : NoNulCommand (pooled_command_meaning letters pool tape x)) where
     abbrev command_is : Command Meaning
     command_is = pooled_command_meaning letters pool tape x
 
@@ -158,7 +158,7 @@ module _ (letters : Letters) (octet : Octets letters) (pool tape : List ℕ) whe
     pub command-truncated : (s : List ℕ) (p room : ℕ) → Cut s p (command_octets letters command_is) → command_values command_is ≤ room → command_at letters s p room ≡ refused truncated
     command-truncated s p room c k = command-cut letters command_is room (command-fit letters octet pool tape x typed accepted no_nul) k c
 
-  module _ (x : Header Pooled) (typed : TypedHeader x) (accepted : header_refusal letters pool tape x ≡ none) where
+  module _ (x : Header Pooled) (typed : TypedHeader x) (accepted : header_refusal letters pool tape x ≡ None) where
     abbrev header_is : Header Meaning
     header_is = pooled_header_meaning letters pool tape x
 

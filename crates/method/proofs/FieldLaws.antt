@@ -1,7 +1,7 @@
 -- A field list is read back as it was written, and cut short it is Truncated: once, over the list.
 use mathlib.Core.Path.{◌≡◌, refl, ◌∙◌}
 use mathlib.Core.Bool.{Bool, true, false}
-use mathlib.Core.Option.{none}
+use Rattle.std.specs.Prelude.{None}
 use mathlib.Core.List.{List, [], ◌∷◌}
 use Prim.Native.Nat.{ℕ, ◌+◌, ◌-◌, ◌≤◌, ◌<◌}
 use native.Mathlib.Omega.{arith}
@@ -107,7 +107,7 @@ module _ (letters : Letters) where
   unfolding fields_at fixed_at
   fields-differ {s} {p} c xs fs room h l d = rw (← l, span-here (length xs) s p h.fits, h.same, d)
 
-  pub flags-spare : {s : List ℕ} {p : ℕ} (places : List Bool) (n : ℕ) (fs : List Field) (room : ℕ) → n < 256 → Stands s p (octets 1 n) → flags_in places n ≡ none
+  pub flags-spare : {s : List ℕ} {p : ℕ} (places : List Bool) (n : ℕ) (fs : List Field) (room : ℕ) → n < 256 → Stands s p (octets 1 n) → flags_in places n ≡ None
       → fields_at letters (arg (bits places) ∷ fs) s p room ≡ refused (not_written p)
   unfolding fields_at arg_at
   flags-spare {s} {p} places n fs room l h e = rw (number-here 1 n l h, e)

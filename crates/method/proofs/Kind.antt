@@ -2,7 +2,7 @@
 -- Each kind has a file of them, and lists of fields go by these laws alone.
 use mathlib.Core.Path.{◌≡◌}
 use mathlib.Core.Bool.{Bool, true}
-use mathlib.Core.Option.{none, some}
+use Rattle.std.specs.Prelude.{None, Some}
 use mathlib.Core.List.{List, [], ◌++◌}
 use Prim.Native.Nat.{ℕ, ◌+◌, ◌≤◌}
 use lib.ListN.{length, take}
@@ -45,12 +45,12 @@ pub record KindLaws (letters : Letters) (K : FieldKind) : Type 1 where
   -- no user has a NUL, which some kinds cannot have
   pub sound : Bool
   pub few : sound ≡ true → (pool tape : List ℕ) (v : K.Pooled) → let x = K.meaning pool (tape_meaning letters pool tape) v in
-      K.judge letters pool tape v ≡ none → K.judge_length letters x ≡ none → length (K.octets letters x) ≤ 4294967299
-  pub long : (x : K.Meaning) (r : Refusal) → K.judge_length letters x ≡ some r → r ≡ too_long
+      K.judge letters pool tape v ≡ None → K.judge_length letters x ≡ None → length (K.octets letters x) ≤ 4294967299
+  pub long : (x : K.Meaning) (r : Refusal) → K.judge_length letters x ≡ Some r → r ≡ too_long
   pub no_user : Bool
   pub no_nul : no_user ≡ true → (v : K.Meaning) → K.NoNul v
   pub fit : Octets letters → sound ≡ true → (pool tape : List ℕ) (v : K.Pooled) → let x = K.meaning pool (tape_meaning letters pool tape) v in
-      K.Typed v → K.judge letters pool tape v ≡ none → K.judge_length letters x ≡ none → K.NoNul x → Fit x
+      K.Typed v → K.judge letters pool tape v ≡ None → K.judge_length letters x ≡ None → K.NoNul x → Fit x
   -- Words
   pub length-words : (v : K.Pooled) → length (K.words v) ≡ K.width
   pub words_back : (v : K.Pooled) (more : List ℕ) → K.from (K.words v ++ more) ≡ v

@@ -1,5 +1,5 @@
 -- Laws of the specification of commands and content headers.
-pub mod FieldCodes
+pub mod FieldsLeft
 pub mod Kind
 pub mod NumberLaws
 pub mod ShortStrLaws
@@ -14,3 +14,4 @@ pub mod MethodLaws
 pub mod Bounds
 pub mod FixedLaws
 pub mod CommandLaws
+pub mod PresentLaws

@@ -1,7 +1,7 @@
 -- The laws of a login.
 use mathlib.Core.Path.{◌≡◌, refl, ap, ◌∙◌}
 use mathlib.Core.Bool.{Bool, true, false}
-use mathlib.Core.Option.{Option, none, some}
+use Rattle.std.specs.Prelude.{Option, None, Some}
 use mathlib.Core.List.{List, [], ◌∷◌, ◌++◌}
 use Prim.Native.Nat.{ℕ, ◌+◌, ◌-◌, ◌^◌, ◌<◌}
 use native.Mathlib.Omega.{arith}
@@ -24,14 +24,14 @@ use Rattle.method.proofs.Kind.{KindLaws}
 use Rattle.method.proofs.ShortStrLaws.{span-passes}
 
 pub login-next : (s : List ℕ) (p : ℕ) (v : Span) (o : Option ℕ) (q : ℕ) (a : Login Span) (n : ℕ) → login_in s p v o q ≡ given a n → q ≡ n
-login-next s p v none q a n e = let z : ◌≡◌ {A = ℕ} 0 1 = cc in absurd (omega arith)
-login-next s p v (some m) q a n e =
+login-next s p v None q a n e = let z : ◌≡◌ {A = ℕ} 0 1 = cc in absurd (omega arith)
+login-next s p v (Some m) q a n e =
     let b = need-given (utf8 (octets_of s (login_spans v m).user)) _ _ a n e in
     let c = need-given (utf8 (octets_of s (login_spans v m).password)) _ _ a n b.1 in
     given-next (login_spans v m) a q n c.1
 
 -- the user ends where the first NUL stands
-pub nul-after : (u w : List ℕ) → NoNul u → until_nul (u ++ (0 ∷ w)) ≡ some (length u)
+pub nul-after : (u w : List ℕ) → NoNul u → until_nul (u ++ (0 ∷ w)) ≡ Some (length u)
 unfolding until_nul
 nul-after [] w h = refl
 nul-after (x ∷ u) w h = rw h.0 (ap one_more (nul-after u w h.1))
@@ -64,17 +64,17 @@ login-parts {s} {p} x h =
     ((stands-left u (0 ∷ w) a).same, c.same)
 
 -- a length that is not refused
-pub length-fit : (n : ℕ) → judge_length n ≡ none → n < 256 ^ 4
-length-fit n e = omega (arith, yes_leb n 4294967295 (test-none (leb n 4294967295) too_long none e).0)
+pub length-fit : (n : ℕ) → judge_length n ≡ None → n < 256 ^ 4
+length-fit n e = omega (arith, yes_leb n 4294967295 (test-none (leb n 4294967295) too_long None e).0)
 
-pub too_long_lem : (n : ℕ) (r : Refusal) → judge_length n ≡ some r → r ≡ too_long
+pub too_long_lem : (n : ℕ) (r : Refusal) → judge_length n ≡ Some r → r ≡ too_long
 too_long_lem n r e = go (leb n 4294967295) e
   where
-    go : (b : Bool) → test b too_long none ≡ some r → r ≡ too_long
+    go : (b : Bool) → test b too_long None ≡ Some r → r ≡ too_long
     go true h = let z : ◌≡◌ {A = ℕ} 0 1 = cc in absurd (omega arith)
     go false h = cc
 
-pub text-passes : (pool : List ℕ) (v : Span) (more : Option Refusal) → judge_text pool v more ≡ none → (utf8 (octets_of pool v) ≡ true) × (more ≡ none)
+pub text-passes : (pool : List ℕ) (v : Span) (more : Option Refusal) → judge_text pool v more ≡ None → (utf8 (octets_of pool v) ≡ true) × (more ≡ None)
 text-passes pool v more e = test-none (utf8 (octets_of pool v)) not_utf8 more (span-passes pool v (test (utf8 (octets_of pool v)) not_utf8 more) e)
 
 abbrev pub FitLogin : Login (List ℕ) → Type 0
@@ -120,8 +120,8 @@ login_laws letters =
       fit =
           λ o b pool tape v t e l z.
           let x = login_kind.meaning pool (tape_meaning letters pool tape) v in
-          let a = text-passes pool v.user (judge_text pool v.password none) e in
-          (a.0, (text-passes pool v.password none a.1).0, z, length-fit (length (login_text x)) l);
+          let a = text-passes pool v.user (judge_text pool v.password None) e in
+          (a.0, (text-passes pool v.password None a.1).0, z, length-fit (length (login_text x)) l);
       length-words = λ v. refl;
       words_back = λ v more. refl;
       kept = λ v t. refl;

@@ -1,7 +1,7 @@
 -- Commands and content headers that their writers accept are read back as they were written.
 use mathlib.Core.Path.{◌≡◌, refl, sym, ap, ◌∙◌}
 use mathlib.Core.Bool.{Bool, true, false}
-use mathlib.Core.Option.{none}
+use Rattle.std.specs.Prelude.{None}
 use mathlib.Core.List.{List, [], ◌∷◌, ◌++◌}
 use Prim.Native.Nat.{ℕ, zero, suc, ◌+◌, ◌-◌, ◌*◌, ◌^◌, ◌/◌, ◌%◌, ◌≤◌, ◌<◌}
 use native.Mathlib.Omega.{arith}
@@ -181,8 +181,8 @@ module _ (letters : Letters) where
 -- Arguments that pass fit
 
 module _ (letters : Letters) (octet : Octets letters) (pool tape : List ℕ) where
-  args-pass : (fs : List Field) (vs : Args Pooled fs) → Sound letters fs → TypedAll fs vs → judge_args letters pool tape fs vs ≡ none
-      → judge_lengths letters fs (pooled_meanings letters pool tape fs vs) ≡ none → NoNulArgs fs (pooled_meanings letters pool tape fs vs)
+  args-pass : (fs : List Field) (vs : Args Pooled fs) → Sound letters fs → TypedAll fs vs → judge_args letters pool tape fs vs ≡ None
+      → judge_lengths letters fs (pooled_meanings letters pool tape fs vs) ≡ None → NoNulArgs fs (pooled_meanings letters pool tape fs vs)
       → Fits letters fs (pooled_meanings letters pool tape fs vs)
   unfolding judge_args judge_lengths pooled_meanings
   args-pass [] vs b t e l z = tt
@@ -193,18 +193,18 @@ module _ (letters : Letters) (octet : Octets letters) (pool tape : List ℕ) whe
       let s = and-true (sound letters (arg k)) (every (sound letters) fs) b in
       ((laws letters k).fit octet s.0 pool tape vs.0 t.0 a.0 n.0 z.0, args-pass fs vs.1 s.1 t.1 a.1 n.1 z.1)
 
-  args_fit : (fs : List Field) (vs : Args Pooled fs) → Sound letters fs → TypedAll fs vs → refusal_of letters pool tape fs vs ≡ none → NoNulArgs fs (pooled_meanings letters pool tape fs vs)
+  args_fit : (fs : List Field) (vs : Args Pooled fs) → Sound letters fs → TypedAll fs vs → refusal_of letters pool tape fs vs ≡ None → NoNulArgs fs (pooled_meanings letters pool tape fs vs)
       → Fits letters fs (pooled_meanings letters pool tape fs vs)
   args_fit fs vs b t e z =
       let a = or_else-none (judge_args letters pool tape fs vs) (judge_lengths letters fs (pooled_meanings letters pool tape fs vs)) e in
       args-pass fs vs b t a.0 a.1 z
 
-  pub command-fit : (x : Command Pooled) → TypedCommand x → command_refusal letters pool tape x ≡ none → NoNulCommand (pooled_command_meaning letters pool tape x)
+  pub command-fit : (x : Command Pooled) → TypedCommand x → command_refusal letters pool tape x ≡ None → NoNulCommand (pooled_command_meaning letters pool tape x)
       → FitCommand letters (pooled_command_meaning letters pool tape x)
   unfolding TypedCommand NoNulCommand
   command-fit (call c m vs) t e z = (t.0, t.1, t.2, args_fit (fields_of c m) vs (commands-sound letters c m) t.3 e z)
 
-  pub header-fit : (x : Header Pooled) → TypedHeader x → header_refusal letters pool tape x ≡ none → FitHeader letters (pooled_header_meaning letters pool tape x)
+  pub header-fit : (x : Header Pooled) → TypedHeader x → header_refusal letters pool tape x ≡ None → FitHeader letters (pooled_header_meaning letters pool tape x)
   unfolding TypedHeader
   header-fit (header c n ps vs) t e =
       (t.0, t.1, t.2, args_fit (select ps properties) vs (properties-sound letters ps) t.3 e (no-login letters ps properties (unfold properties in refl) (pooled_meanings letters pool tape (select ps properties) vs)))

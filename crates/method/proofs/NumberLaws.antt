@@ -1,7 +1,7 @@
 -- The laws of a number.
 use mathlib.Core.Path.{◌≡◌, refl, sym}
 use mathlib.Core.Bool.{true}
-use mathlib.Core.Option.{none, some}
+use Rattle.std.specs.Prelude.{None, Some}
 use Prim.Native.Nat.{ℕ, ◌^◌, ◌<◌}
 use native.Mathlib.Omega.{arith}
 use native.Mathlib.Nat.{mod-eq_of_lt}
@@ -15,7 +15,7 @@ use Rattle.method.specs.Kinds.Number.{number_kind}
 use Rattle.method.proofs.Kind.{KindLaws}
 
 -- no length field of four octets
-pub nothing-long : {A : Type 0} (r : Refusal) → none ≡ some r → A
+pub nothing-long : {A : Type 0} (r : Refusal) → None ≡ Some r → A
 nothing-long r e = let z : ◌≡◌ {A = ℕ} 0 1 = cc in absurd (omega arith)
 
 abbrev pub number_laws : (letters : Letters) (k : ℕ) → KindLaws letters (number_kind k)

@@ -1,7 +1,7 @@
 -- The laws of a short string.
 use mathlib.Core.Path.{◌≡◌, refl}
 use mathlib.Core.Bool.{true}
-use mathlib.Core.Option.{Option, none}
+use Rattle.std.specs.Prelude.{Option, None}
 use mathlib.Core.List.{List}
 use Prim.Native.Nat.{ℕ}
 use native.Mathlib.Omega.{arith}
@@ -22,7 +22,7 @@ use Rattle.method.proofs.Kind.{KindLaws}
 use Rattle.method.proofs.NumberLaws.{nothing-long}
 
 -- a span in the pool, then what is judged behind it
-pub span-passes : (pool : List ℕ) (v : Span) (more : Option Refusal) → judge_span pool v more ≡ none → more ≡ none
+pub span-passes : (pool : List ℕ) (v : Span) (more : Option Refusal) → judge_span pool v more ≡ None → more ≡ None
 span-passes pool v more e = (test-none (in_pool pool v.start v.len) truncated more e).1
 
 abbrev pub short_str_laws : (letters : Letters) → KindLaws letters short_str_kind
@@ -41,7 +41,7 @@ short_str_laws letters =
       few =
           λ b pool tape v e l.
           let xs = octets_of pool v in
-          let d = test-none (leb (length xs) 255) short_str_too_long (test (utf8 xs) not_utf8 none) (span-passes pool v (judge_short_str xs) e) in
+          let d = test-none (leb (length xs) 255) short_str_too_long (test (utf8 xs) not_utf8 None) (span-passes pool v (judge_short_str xs) e) in
           omega (arith, yes_leb (length xs) 255 d.0);
       long = λ x r e. nothing-long r e;
       no_user = true;

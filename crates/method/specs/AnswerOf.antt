@@ -1,21 +1,12 @@
 -- The document's class, method, arguments and properties for every case of the code's commands and headers.
-use Rattle.std.specs.Prelude.{ℕ, Bool, true, false, List, [], ◌∷◌}
-use Rattle.std.proofs.Math.Option.{Option, none, some}
-use Rattle.types.specs.declared.Span.{Span}
+use Rattle.std.specs.Prelude.{Bool, true, false, List, [], ◌∷◌}
+use Rattle.std.specs.Prelude.{Option, None, Some}
 use Rattle.method.specs.Fields.{Kind, Field, fixed, arg, Pooled, Args}
 use Rattle.method.specs.Commands as table
 use Rattle.method.specs.Commands.{commands, fields_of, call}
 use Rattle.method.specs.Properties.{properties, select, Header, header}
 use Rattle.method.specs.declared.Command.{Command}
 use Rattle.method.specs.declared.Command.TheVariants.{ConnectionStartOk, ConnectionTuneOk, ConnectionOpen, ChannelOpen, ChannelFlow, ChannelFlowOk, ChannelClose, ChannelCloseOk, ExchangeDeclare, ExchangeDelete, QueueDeclare, QueueBind, QueueUnbind, QueuePurge, QueueDelete, BasicQos, BasicConsume, BasicCancel, BasicPublish, BasicGet, BasicAck, BasicReject, BasicNack, ConfirmSelect, TxSelect}
-use Rattle.method.specs.declared.OptSpan.{OptSpan}
-use Rattle.method.specs.declared.OptSpan.TheVariants as span
-use Rattle.method.specs.declared.OptU8.{OptU8}
-use Rattle.method.specs.declared.OptU8.TheVariants as u8
-use Rattle.method.specs.declared.OptU64.{OptU64}
-use Rattle.method.specs.declared.OptU64.TheVariants as u64
-use Rattle.method.specs.declared.OptTable.{OptTable}
-use Rattle.method.specs.declared.OptTable.TheVariants as headers
 use Rattle.method.specs.declared.ContentProperties.{ContentProperties}
 use Rattle.method.specs.declared.ContentHeader.{ContentHeader}
 
@@ -53,8 +44,8 @@ abbrev pub Optional : Kind → Type 0
 Optional k = Option (Pooled k)
 
 abbrev pub is_there : {A : Type 0} → Option A → Bool
-is_there none = false
-is_there (some a) = true
+is_there None = false
+is_there (Some a) = true
 
 abbrev pub present : (fs : List Field) → Args Optional fs → List Bool
 present [] vs = []
@@ -63,8 +54,8 @@ present (arg k ∷ fs) vs = is_there vs.0 ∷ present fs vs.1
 
 abbrev pub with_first : (k : Kind) (fs : List Field) (ps : List Bool) (v : Option (Pooled k)) → Args Pooled (select ps fs) → Args Pooled (select (is_there v ∷ ps) (arg k ∷ fs))
 unfolding select
-with_first k fs ps none vs = vs
-with_first k fs ps (some v) vs = (v, vs)
+with_first k fs ps None vs = vs
+with_first k fs ps (Some v) vs = (v, vs)
 
 -- those that are there
 unfoldable pub chosen : (fs : List Field) (vs : Args Optional fs) → Args Pooled (select (present fs vs) fs)
@@ -73,45 +64,29 @@ chosen [] vs = tt
 chosen (fixed xs ∷ fs) vs = chosen fs vs
 chosen (arg k ∷ fs) vs = with_first k fs (present fs vs.1) vs.0 (chosen fs vs.1)
 
-abbrev pub optional_span : OptSpan → Option Span
-optional_span span.None = none
-optional_span (span.Some v) = some v
-
-abbrev pub optional_u8 : OptU8 → Option ℕ
-optional_u8 u8.None = none
-optional_u8 (u8.Some n) = some n
-
-abbrev pub optional_u64 : OptU64 → Option ℕ
-optional_u64 u64.None = none
-optional_u64 (u64.Some n) = some n
-
-abbrev pub optional_table : OptTable → Option ℕ
-optional_table headers.None = none
-optional_table (headers.Some n) = some n
-
 unfoldable pub properties_of : ContentProperties → Args Optional properties
 unfolding properties
 properties_of p = (
-  optional_span p.content_type,
+  p.content_type,
   (
-    optional_span p.content_encoding,
+    p.content_encoding,
     (
-      optional_table p.headers,
+      p.headers,
       (
-        optional_u8 p.delivery_mode,
+        p.delivery_mode,
         (
-          optional_u8 p.priority,
+          p.priority,
           (
-            optional_span p.correlation_id,
+            p.correlation_id,
             (
-              optional_span p.reply_to,
+              p.reply_to,
               (
-                optional_span p.expiration,
+                p.expiration,
                 (
-                  optional_span p.message_id,
+                  p.message_id,
                   (
-                    optional_u64 p.timestamp,
-                    (optional_span p.type_, (optional_span p.user_id, (optional_span p.app_id, tt))),
+                    p.timestamp,
+                    (p.type_, (p.user_id, (p.app_id, tt))),
                   ),
                 ),
               ),

@@ -1,6 +1,6 @@
 -- The command table, line by line as in document 01, "method.rs: commands".
 use Rattle.std.specs.Prelude.{Bool, true, false, ◌&&◌, cond, List, [], ◌∷◌, ◌++◌, ℕ, eqb}
-use Rattle.std.proofs.Math.Option.{Option, none, some}
+use Rattle.std.specs.Prelude.{Option, None, Some}
 use Rattle.types.specs.Strings.{short_str, long_str}
 use Rattle.method.specs.Fields as field
 use Rattle.method.specs.Fields.{Kind, number, bits, login, Field, fixed, arg, Args}
@@ -99,16 +99,16 @@ commands =
     ∷ []
 
 abbrev pub fields_in : List Row → ℕ → ℕ → Option (List Field)
-fields_in [] c m = none
-fields_in (r ∷ rs) c m = cond (eqb c r.class && eqb m r.method) (some r.fields) (fields_in rs c m)
+fields_in [] c m = None
+fields_in (r ∷ rs) c m = cond (eqb c r.class && eqb m r.method) (Some r.fields) (fields_in rs c m)
 
 abbrev pub is_some : Option (List Field) → Bool
-is_some none = false
-is_some (some fs) = true
+is_some None = false
+is_some (Some fs) = true
 
 abbrev pub or_none : Option (List Field) → List Field
-or_none none = []
-or_none (some fs) = fs
+or_none None = []
+or_none (Some fs) = fs
 
 -- the pair is in the command table
 unfoldable pub known : ℕ → ℕ → Bool

@@ -1,5 +1,5 @@
 -- All that is said of a kind of argument: its forms, its octets, its reader, what its writer refuses, its words. Each kind is a file below.
-use Rattle.std.proofs.Math.Option.{Option}
+use Rattle.std.specs.Prelude.{Option}
 use Rattle.std.specs.Prelude.{List, ℕ}
 use Rattle.types.specs.Answer.{Answer, Refusal}
 use Rattle.tables.specs.Letters.{Letters}

@@ -9,3 +9,4 @@ pub mod Pooled
 pub mod Words
 pub mod Layout
 pub mod AnswerOf
+pub mod Present

@@ -1,7 +1,7 @@
 -- What a reader returns is what a writer takes: the same command or header, its strings as spans of a lent pool and its table as the lent tape.
 -- The writers refuse arguments in wire order, each string for its span (one outside the pool has fewer octets than it needs: Truncated), its length,
 -- its UTF-8; then 9, then 11 (document 01, "Results and refusals").
-use Rattle.std.proofs.Math.Option.{Option, none}
+use Rattle.std.specs.Prelude.{Option, None}
 use Rattle.std.specs.Prelude.{List, ℕ}
 use Rattle.types.specs.Answer.{Refusal}
 use Rattle.types.specs.Judgement.{or_else}
@@ -36,7 +36,7 @@ module _ (letters : Letters) (pool tape : List ℕ) where
 
   -- in wire order
   unfoldable pub judge_args : (fs : List Field) → Args Pooled fs → Option Refusal
-  judge_args fs vs = fold_args or_else none judge_arg fs vs
+  judge_args fs vs = fold_args or_else None judge_arg fs vs
 
   abbrev pub refusal_of : (fs : List Field) → Args Pooled fs → Option Refusal
   refusal_of fs vs = or_else (judge_args fs vs) (judge_lengths letters fs (pooled_meanings fs vs))

@@ -6,7 +6,8 @@ use Rattle.types.specs.Strings.{octets_of, span_at}
 use Rattle.tables.specs.Letters.{Letters}
 use Rattle.tables.specs.Forest.{meaning_of}
 use Rattle.types.specs.Memory.{Outcome}
-use Rattle.tables.specs.Tape.{Record, forest_of, WithTape, WithCount, room_of, fill_tape}
+use Rattle.tables.specs.Tape.{Record, forest_of, WithTape, room_of, fill_tape}
+use Rattle.tables.specs.declared.WithCount.{WithCount}
 use Rattle.method.specs.Fields.{Kind, kind, Field, fixed, arg, Meaning, Located, Pooled, Args, map_args, fold_args}
 use Rattle.method.specs.Commands.{known, fields_of, Command, call}
 use Rattle.method.specs.Properties.{properties, select, flags_of, Header, header}

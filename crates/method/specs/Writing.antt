@@ -1,6 +1,6 @@
 -- What is written of fields (document 01, "method.rs").
 use Rattle.std.specs.Prelude.{◌≡◌, true, List, [], ◌∷◌, ◌++◌, ℕ, ◌+◌, ◌*◌, ◌^◌, ◌<◌, length}
-use Rattle.std.proofs.Math.Option.{Option, none}
+use Rattle.std.specs.Prelude.{Option, None}
 use Rattle.types.specs.Answer.{Refusal}
 use Rattle.types.specs.Octets.{octets}
 use Rattle.types.specs.Judgement.{or_else}
@@ -47,7 +47,7 @@ abbrev pub judge_arg_length : Letters → (k : Kind) → Meaning k → Option Re
 judge_arg_length letters k v = (kind k).judge_length letters v
 
 unfoldable pub judge_lengths : Letters → (fs : List Field) → Args Meaning fs → Option Refusal
-judge_lengths letters fs vs = fold_args or_else none (judge_arg_length letters) fs vs
+judge_lengths letters fs vs = fold_args or_else None (judge_arg_length letters) fs vs
 
 -- The ranges that the writers' parameter types have
 

@@ -1,16 +1,21 @@
-// Fixed fields, read and written by their octet in a layout.
-ghost use Rattle.std.specs.Prelude.{◌≡◌, length};
-ghost use Rattle.types.specs.Memory.{outcome};
-ghost use Rattle.types.specs.AnswerOf.{answer_of_skipped};
-ghost use Rattle.writers.specs.AnswerOf.{answer_of_written};
-ghost use Rattle.writers.specs.Writers.{write_octets};
-ghost use Rattle.method.specs.Reading.{same, fixed_at};
-ghost use Rattle.method.specs.Layout.{field_of, fixed_octets};
+// Fixed fields: the octets that stand in every command of a kind.
+ghost use Rattle.std.specs.Prelude.{◌≡◌};
+ghost use Rattle.types.specs.AnswerOf.{answer_of};
+ghost use Rattle.method.specs.Reading.{fixed_at};
+ghost use Rattle.method.specs.Layout.{fixed_octets};
 
-use types::{Cursor, ReadSpan, Skipped, WireError};
-use writers::{Written, write_octets};
+use types::{Cursor, Read, WireError};
 
-const ZEROS: [u8; 16] = [0; 16];
+// Each kind by its name, the zeros too: a number of zeros would go past the four that are there, and would need an invariant.
+#[derive(Clone, Copy, Debug, PartialEq, Eq)]
+pub enum Fixed {
+    Zero,
+    TwoZeros,
+    FourZeros,
+    ClientProperties,
+    Plain,
+    EnUs,
+}
 
 // product ZeroDDS, version 1.0, as S
 const CLIENT_PROPERTIES: [u8; 40] =
@@ -20,84 +25,30 @@ const PLAIN: [u8; 6] = *b"\x05PLAIN";
 
 const EN_US: [u8; 6] = *b"\x05en_US";
 
-fn is_same(a: &[u8], b: &[u8]) -> bool
-    ensures { result ≡ same a.now b.now }
-{
-    if a.len() != b.len() {
-        return false;
-    }
-    let mut i = 0;
-    while i < a.len() {
-        if a[i] != b[i] {
-            return false;
-        }
-        i += 1;
-    }
-    true
-}
-
-// Octets that must stand at the position.
-fn read_octets(s: &[u8], at: Cursor, octets: &[u8]) -> Skipped
-    ensures { answer_of_skipped result ≡ fixed_at octets.now s.now at.at }
-{
-    let start = at.at;
-    match at.span(s, octets.len()) {
-        ReadSpan::Refused(e) => Skipped::Refused(e),
-        ReadSpan::Value(_, next) => {
-            let end = next.at;
-            if is_same(&s[start..end], octets) {
-                return Skipped::Next(next);
-            }
-            Skipped::Refused(WireError::NotWritten(start))
+impl Fixed {
+    pub fn octets(self) -> &'static [u8]
+        ensures { result.now ≡ fixed_octets self }
+    {
+        match self {
+            Fixed::Zero => &[0],
+            Fixed::TwoZeros => &[0, 0],
+            Fixed::FourZeros => &[0, 0, 0, 0],
+            Fixed::ClientProperties => &CLIENT_PROPERTIES,
+            Fixed::Plain => &PLAIN,
+            Fixed::EnUs => &EN_US,
         }
     }
 }
 
-// A fixed field; an argument has no fixed octets.
-pub fn read_fixed(s: &[u8], at: Cursor, field: u8) -> Skipped
-    ensures { answer_of_skipped result ≡ fixed_at (fixed_octets (field_of field)) s.now at.at }
+// Passes over a fixed field, which must stand at the position. `starts_with` would not tell an end that comes too early, which is
+// Truncated, from other octets.
+pub fn read_fixed(s: &[u8], at: Cursor, field: Fixed) -> Read<()>
+    ensures { answer_of result ≡ fixed_at (fixed_octets field) s.now at.at }
 {
-    let digit = field % 16;
-    match field / 16 {
-        0xA => read_octets(s, at, &ZEROS[..digit as usize]),
-        0xC => match digit {
-            1 => read_octets(s, at, &CLIENT_PROPERTIES),
-            2 => read_octets(s, at, &PLAIN),
-            3 => read_octets(s, at, &EN_US),
-            _ => read_octets(s, at, &[]),
-        },
-        _ => read_octets(s, at, &[]),
+    let octets = field.octets();
+    let (_, next) = at.span(s, octets.len())?;
+    if &s[at.at..next.at] == octets {
+        return Ok(((), next));
     }
-}
-
-pub fn fixed_len(field: u8) -> usize
-    ensures { result ≡ length (fixed_octets (field_of field)) }
-{
-    let digit = field % 16;
-    match field / 16 {
-        0xA => digit as usize,
-        0xC => match digit {
-            1 => CLIENT_PROPERTIES.len(),
-            2 => PLAIN.len(),
-            3 => EN_US.len(),
-            _ => 0,
-        },
-        _ => 0,
-    }
-}
-
-pub fn write_fixed(out: &mut [u8], at: usize, field: u8) -> Written
-    ensures { outcome (answer_of_written result) out.new ≡ write_octets (fixed_octets (field_of field)) at out.old }
-{
-    let digit = field % 16;
-    match field / 16 {
-        0xA => write_octets(out, at, &ZEROS[..digit as usize]),
-        0xC => match digit {
-            1 => write_octets(out, at, &CLIENT_PROPERTIES),
-            2 => write_octets(out, at, &PLAIN),
-            3 => write_octets(out, at, &EN_US),
-            _ => write_octets(out, at, &[]),
-        },
-        _ => write_octets(out, at, &[]),
-    }
+    Err(WireError::NotWritten(at.at))
 }

@@ -1,119 +1,121 @@
-// The layout of every command and of the content header's properties, by document 01's letters. A field is an octet, its kind in
-// the high digit; loops read and write by these alone.
-ghost use Rattle.std.specs.Prelude.{◌≡◌, true, map, ◌≤◌};
+// The layout of every command and of the content header's properties, by document 01's letters. Loops read and write by these alone.
+ghost use Rattle.std.specs.Prelude.{◌≡◌, map};
 ghost use Rattle.method.specs.Commands.{commands, fields_in};
 ghost use Rattle.method.specs.Properties.{properties};
 ghost use Rattle.method.specs.Words.{width};
 ghost use Rattle.method.specs.Layout.{field_of, layout_fields};
 
-// A number of so many octets.
-const OCTET: u8 = 0x01;
+use crate::fixed::Fixed;
+use types::Number;
 
-const H: u8 = 0x02;
-
-const L: u8 = 0x04;
-
-const Q: u8 = 0x08;
-// A short string.
-const S: u8 = 0x50;
-// So many octets 00; a bit octet without an argument is one of them.
-const S0: u8 = 0xA1;
-
-const B0: u8 = 0xA1;
-
-const Z: u8 = 0xA2;
-
-const E: u8 = 0xA4;
-// A bit octet: the bits that are arguments.
-const LOWEST_BIT: u8 = 0xB1;
-
-const SECOND_BIT: u8 = 0xB2;
-
-const TWO_BITS: u8 = 0xB3;
-// Fixed octets.
-const CLIENT_PROPERTIES: u8 = 0xC1;
-
-const PLAIN: u8 = 0xC2;
-
-const EN_US: u8 = 0xC3;
-
-const LOGIN: u8 = 0xD0;
-
-const TABLE: u8 = 0xF0;
-
-// The first `count` of the fields, where the command is known.
-#[derive(Clone, Copy)]
-pub struct Layout {
-    pub known: bool,
-    pub count: usize,
-    pub fields: [u8; 8],
+// Which bits of a bit octet are arguments.
+#[derive(Clone, Copy, Debug, PartialEq, Eq)]
+pub enum Bits {
+    Lowest,
+    Second,
+    Both,
 }
 
-fn row(count: usize, fields: [u8; 8]) -> Layout
-    ensures { result ≡ record { known = true; count = count; fields = fields } }
-{
-    Layout {
-        known: true,
-        count,
-        fields,
-    }
+// A field of a command or of a content header.
+#[derive(Clone, Copy, Debug, PartialEq, Eq)]
+pub enum Field {
+    Number(Number),
+    ShortStr,
+    Bits(Bits),
+    Login,
+    Table,
+    Fixed(Fixed),
 }
 
-// The layout of a command. Its key is class and method, as in 60_00080.
-pub fn layout_of(class: u16, method: u16) -> Layout
-    ensures { (layout_fields result ≡ fields_in commands class method) × (result.count ≤ 8) }
+// The document's letters. A bit octet without an argument is a fixed octet.
+const OCTET: Field = Field::Number(Number::U8);
+
+const H: Field = Field::Number(Number::U16);
+
+const L: Field = Field::Number(Number::U32);
+
+const Q: Field = Field::Number(Number::U64);
+
+const S: Field = Field::ShortStr;
+
+const S0: Field = Field::Fixed(Fixed::Zero);
+
+const B0: Field = Field::Fixed(Fixed::Zero);
+
+const Z: Field = Field::Fixed(Fixed::TwoZeros);
+
+const E: Field = Field::Fixed(Fixed::FourZeros);
+
+const LOWEST_BIT: Field = Field::Bits(Bits::Lowest);
+
+const SECOND_BIT: Field = Field::Bits(Bits::Second);
+
+const TWO_BITS: Field = Field::Bits(Bits::Both);
+
+const CLIENT_PROPERTIES: Field = Field::Fixed(Fixed::ClientProperties);
+
+const PLAIN: Field = Field::Fixed(Fixed::Plain);
+
+const EN_US: Field = Field::Fixed(Fixed::EnUs);
+
+const LOGIN: Field = Field::Login;
+
+const TABLE: Field = Field::Table;
+
+// The fields of a command that is known. Class and method come as two numbers: the reader has read one after the other, and the writer has
+// them in a Call with its words. A struct of both would be made at each call, and the match would take it apart at once.
+#[tactic(auto, unfolding(crate::specs::Commands::commands))]
+pub fn layout_of(class: u16, method: u16) -> Option<&'static [Field]>
+    ensures { layout_fields result ≡ fields_in commands class method }
 {
-    match class as u64 * 100_000 + method as u64 {
-        10_00011 => row(4, [CLIENT_PROPERTIES, PLAIN, LOGIN, EN_US, 0, 0, 0, 0]),
-        10_00031 => row(3, [H, L, H, 0, 0, 0, 0, 0]),
-        10_00040 => row(3, [S, S0, B0, 0, 0, 0, 0, 0]),
-        20_00010 => row(1, [S0, 0, 0, 0, 0, 0, 0, 0]),
-        20_00020 => row(1, [LOWEST_BIT, 0, 0, 0, 0, 0, 0, 0]),
-        20_00021 => row(1, [LOWEST_BIT, 0, 0, 0, 0, 0, 0, 0]),
-        20_00040 => row(4, [H, S, Z, Z, 0, 0, 0, 0]),
-        20_00041 => row(0, [0, 0, 0, 0, 0, 0, 0, 0]),
-        40_00010 => row(5, [Z, S, S, SECOND_BIT, E, 0, 0, 0]),
-        40_00020 => row(3, [Z, S, LOWEST_BIT, 0, 0, 0, 0, 0]),
-        50_00010 => row(4, [Z, S, SECOND_BIT, E, 0, 0, 0, 0]),
-        50_00020 => row(6, [Z, S, S, S, B0, E, 0, 0]),
-        50_00050 => row(5, [Z, S, S, S, E, 0, 0, 0]),
-        50_00030 => row(3, [Z, S, B0, 0, 0, 0, 0, 0]),
-        50_00040 => row(3, [Z, S, B0, 0, 0, 0, 0, 0]),
-        60_00010 => row(3, [L, H, LOWEST_BIT, 0, 0, 0, 0, 0]),
-        60_00020 => row(5, [Z, S, S, SECOND_BIT, E, 0, 0, 0]),
-        60_00030 => row(2, [S, LOWEST_BIT, 0, 0, 0, 0, 0, 0]),
-        60_00040 => row(4, [Z, S, S, B0, 0, 0, 0, 0]),
-        60_00070 => row(3, [Z, S, LOWEST_BIT, 0, 0, 0, 0, 0]),
-        60_00080 => row(2, [Q, LOWEST_BIT, 0, 0, 0, 0, 0, 0]),
-        60_00090 => row(2, [Q, LOWEST_BIT, 0, 0, 0, 0, 0, 0]),
-        60_00120 => row(2, [Q, TWO_BITS, 0, 0, 0, 0, 0, 0]),
-        85_00010 => row(1, [LOWEST_BIT, 0, 0, 0, 0, 0, 0, 0]),
-        90_00010 => row(0, [0, 0, 0, 0, 0, 0, 0, 0]),
-        _ => Layout {
-            known: false,
-            count: 0,
-            fields: [0, 0, 0, 0, 0, 0, 0, 0],
-        },
+    match (class, method) {
+        (10, 11) => Some(&[CLIENT_PROPERTIES, PLAIN, LOGIN, EN_US]),
+        (10, 31) => Some(&[H, L, H]),
+        (10, 40) => Some(&[S, S0, B0]),
+        (20, 10) => Some(&[S0]),
+        (20, 20) => Some(&[LOWEST_BIT]),
+        (20, 21) => Some(&[LOWEST_BIT]),
+        (20, 40) => Some(&[H, S, Z, Z]),
+        (20, 41) => Some(&[]),
+        (40, 10) => Some(&[Z, S, S, SECOND_BIT, E]),
+        (40, 20) => Some(&[Z, S, LOWEST_BIT]),
+        (50, 10) => Some(&[Z, S, SECOND_BIT, E]),
+        (50, 20) => Some(&[Z, S, S, S, B0, E]),
+        (50, 50) => Some(&[Z, S, S, S, E]),
+        (50, 30) => Some(&[Z, S, B0]),
+        (50, 40) => Some(&[Z, S, B0]),
+        (60, 10) => Some(&[L, H, LOWEST_BIT]),
+        (60, 20) => Some(&[Z, S, S, SECOND_BIT, E]),
+        (60, 30) => Some(&[S, LOWEST_BIT]),
+        (60, 40) => Some(&[Z, S, S, B0]),
+        (60, 70) => Some(&[Z, S, LOWEST_BIT]),
+        (60, 80) => Some(&[Q, LOWEST_BIT]),
+        (60, 90) => Some(&[Q, LOWEST_BIT]),
+        (60, 120) => Some(&[Q, TWO_BITS]),
+        (85, 10) => Some(&[LOWEST_BIT]),
+        (90, 10) => Some(&[]),
+        _ => None,
     }
 }
 
 // The properties of a content header, by flag, from 15 down to 3.
-pub fn property_fields() -> [u8; 13]
-    ensures { map field_of result ≡ properties }
+pub fn property_fields() -> &'static [Field]
+    ensures { map field_of result.now ≡ properties }
 {
-    [S, S, TABLE, OCTET, OCTET, S, S, S, S, Q, S, S, S]
+    &[S, S, TABLE, OCTET, OCTET, S, S, S, S, Q, S, S, S]
 }
 
-// How many words a field's arguments take.
-pub fn width_of(field: u8) -> usize
+// How many words a field's arguments take. No method, as `octets` of a number or of fixed octets is: it tells nothing of the field on the
+// wire, but how its arguments are lent, and stands with the layouts for the loops that go by them.
+pub fn width_of(field: Field) -> usize
     ensures { result ≡ width (field_of field) }
 {
-    match field / 16 {
-        0x0 => 1,
-        0x5 => 2,
-        0xB => 1,
-        0xD => 4,
-        0xF => 1,
-        _ => 0,
+    match field {
+        Field::Number(_) => 1,
+        Field::ShortStr => 2,
+        Field::Bits(_) => 1,
+        Field::Login => 4,
+        Field::Table => 1,
+        Field::Fixed(_) => 0,
     }
 }

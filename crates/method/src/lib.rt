@@ -4,10 +4,11 @@
 
 pub mod fixed;
 pub mod layout;
+pub mod present;
 
 use types::Span;
 
-#[derive(Clone, Copy)]
+#[derive(Clone, Copy, Debug, PartialEq, Eq)]
 pub enum Command {
     ConnectionStartOk {
         user: Span,
@@ -103,49 +104,25 @@ pub enum Command {
     TxSelect,
 }
 
-#[derive(Clone, Copy)]
-pub enum OptSpan {
-    None,
-    Some(Span),
-}
-
-#[derive(Clone, Copy)]
-pub enum OptU8 {
-    None,
-    Some(u8),
-}
-
-#[derive(Clone, Copy)]
-pub enum OptU64 {
-    None,
-    Some(u64),
-}
-
-// The headers' tape records, by their number.
-#[derive(Clone, Copy)]
-pub enum OptTable {
-    None,
-    Some(usize),
-}
-
-#[derive(Clone, Copy)]
+// The headers are told by the number of their tape records.
+#[derive(Clone, Copy, Debug, PartialEq, Eq)]
 pub struct ContentProperties {
-    pub content_type: OptSpan,
-    pub content_encoding: OptSpan,
-    pub headers: OptTable,
-    pub delivery_mode: OptU8,
-    pub priority: OptU8,
-    pub correlation_id: OptSpan,
-    pub reply_to: OptSpan,
-    pub expiration: OptSpan,
-    pub message_id: OptSpan,
-    pub timestamp: OptU64,
-    pub type_: OptSpan,
-    pub user_id: OptSpan,
-    pub app_id: OptSpan,
+    pub content_type: Option<Span>,
+    pub content_encoding: Option<Span>,
+    pub headers: Option<usize>,
+    pub delivery_mode: Option<u8>,
+    pub priority: Option<u8>,
+    pub correlation_id: Option<Span>,
+    pub reply_to: Option<Span>,
+    pub expiration: Option<Span>,
+    pub message_id: Option<Span>,
+    pub timestamp: Option<u64>,
+    pub type_: Option<Span>,
+    pub user_id: Option<Span>,
+    pub app_id: Option<Span>,
 }
 
-#[derive(Clone, Copy)]
+#[derive(Clone, Copy, Debug, PartialEq, Eq)]
 pub struct ContentHeader {
     pub class: u16,
     pub body_size: u64,

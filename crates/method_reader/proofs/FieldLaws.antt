@@ -1,36 +1,31 @@
 -- The loop over fields: a field's words stored, and one turn.
 use mathlib.Core.Path.{◌≡◌, refl, sym, ap, ◌∙◌}
 use mathlib.Core.Bool.{cond}
-use mathlib.Core.List.{List, [], ◌∷◌, ◌++◌, map}
-use Prim.Native.Nat.{ℕ, ◌+◌, ◌-◌, ◌/◌, ◌≤◌, ◌<◌}
+use mathlib.Core.List.{List, [], ◌∷◌, ◌++◌, append_assoc, append-nil}
+use Prim.Native.Nat.{ℕ, ◌+◌, ◌-◌, ◌≤◌}
 use native.Mathlib.Omega.{arith}
-use native.Mathlib.Nat.{sub-zero}
+use native.Mathlib.Nat.{sub-zero, zero-add}
 use borrow.Author.Tests.{ne_eqb}
+use borrow.Rule.Slice.PartMut.{put_mid}
 use lib.Dec.{eqb}
-use lib.ListN.{length, get_or}
-use lib.Seq.{sets}
+use lib.ListN.{length, take, drop, length-drop, drop_of_length-le}
+use lib.Seq.{sets, take_all, drop-drop}
 use Rattle.types.specs.Answer.{Answer, Refusal, given, refused, and_then}
-use Rattle.types.specs.AnswerOf.{refusal}
+use Rattle.std.specs.Prelude.{Option, None, Some, Result, Ok, Err}
+use Rattle.types.specs.AnswerOf.{refusal, answer_of}
+use Rattle.types.specs.declared.Cursor.{Cursor}
 use Rattle.types.specs.declared.WireError.{WireError}
 use Rattle.types.specs.Memory.{splice}
 use Rattle.types.proofs.Chain.{then-go, given-next, given-value}
-use Rattle.types.proofs.Splice.{splice-nil, splice-after, splice-sets}
+use Rattle.types.proofs.Splice.{splice-nil, splice-length, splice-after, splice-sets}
 use Rattle.tables.specs.Letters.{errata}
 use Rattle.tables.specs.Reading.{table_at}
 use Rattle.method.specs.Fields.{Kind, kind, table, Field, fixed, arg, Located, Pooled, Args}
-use Rattle.method.specs.Properties.{select, flags_of}
 use Rattle.method.specs.Reading.{arg_at, arg_tape, fixed_at, fields_at, pooled_arg, pooled_args, used}
 use Rattle.method.specs.Words.{width, widths, arg_words, args_words}
-use Rattle.method.specs.Layout.{field_of}
-use Rattle.method.proofs.FieldCodes.{Left, Present, all_left, none_left, present-left, absent-left}
 use Rattle.method.proofs.Bounds.{arg-within}
 use Rattle.method_reader.specs.declared.fields.TablePlace.{TablePlace}
-use Rattle.method_reader.specs.declared.fields.ReadField.{ReadField}
-use Rattle.method_reader.specs.declared.fields.ReadField.TheVariants as field
-use Rattle.method_reader.specs.declared.fields.ReadFields.{ReadFields}
-use Rattle.method_reader.specs.declared.fields.ReadFields.TheVariants as fields
-use Rattle.method_reader.specs.Fields.{FieldRead, FieldsRead, field_at, FieldStored, table_after, last_table, scan_at, FieldsStored, no_table}
-use Rattle.method_reader.specs.AnswerOf.{answer_of_field, answer_of_fields}
+use Rattle.method_reader.specs.Fields.{FieldRead, FieldsRead, field_at, Stored, WordsStored, FieldStored, table_after, last_table, scan_at, FieldsStored, without_records}
 use Rattle.method.proofs.KindLaws.{laws, table_or_not, is_table, tableless}
 use Rattle.method.specs.Kinds.Table.{TableIn}
 use mathlib.Core.Logic.{⊎_elim}
@@ -39,43 +34,60 @@ use Rattle.method.proofs.Kind.{Tableless}
 use Rattle.tables.specs.Tape.{flatten}
 use Rattle.tables.proofs.TapeLaws.{length-flatten}
 
+-- what the reader of fields answers
+abbrev pub ReadFields : Type 0
+ReadFields = Result (Option TablePlace × Cursor) WireError
+
 -- One field stored
 
 own-width : (k : Kind) (v : Pooled k) → length (arg_words k v) ≡ width (arg k)
 own-width k v = (laws errata k).length-words v
 
-module _ (k : Kind) (s : List ℕ) (p room j : ℕ) (before after : List ℕ) where
-  pub stored_refused : (e : WireError) → arg_at errata k s p room ≡ refused (refusal e) → FieldStored (field_at errata (arg k) s p room) j before after (field.Refused e)
-  unfolding field_at
-  stored_refused e a = rw a
+abbrev read_of : (k : Kind) → Located k → FieldRead
+read_of k v = record { words = arg_words k (pooled_arg k v); records = used k (pooled_arg k v) }
 
-  pub stored-given : (v : Located k) (own q : ℕ) → arg_at errata k s p room ≡ given v q → own ≡ used k (pooled_arg k v) → j + width (arg k) ≤ length before
-      → after ≡ sets before j (arg_words k (pooled_arg k v)) → FieldStored (field_at errata (arg k) s p room) j before after (field.Value own q)
+module _ {B : Type 0} (told : FieldRead → B) (k : Kind) (s : List ℕ) (p room : ℕ) (before after : List ℕ) where
+  pub stored_refused : (r : Result (B × Cursor) WireError) (e : Refusal) → refused e ≡ arg_at errata k s p room → answer_of r ≡ refused e
+      → Stored (λ x. x.words) told (field_at errata (arg k) s p room) 0 before after r
   unfolding field_at
-  stored-given v own q a o l m =
+  stored_refused r e a h = rw (← a) h
+
+  pub stored-given : (v : Located k) (b : B) (next : Cursor) → given v next.at ≡ arg_at errata k s p room → b ≡ told (read_of k v) → width (arg k) ≤ length before
+      → after ≡ sets before 0 (arg_words k (pooled_arg k v)) → Stored (λ x. x.words) told (field_at errata (arg k) s p room) 0 before after (Ok (b, next))
+  unfolding field_at
+  stored-given v b next a o l m =
       let w = own-width k (pooled_arg k v) in
-      rw a (ap (λ (n : ℕ). given n q) o, m ∙ splice-sets (arg_words k (pooled_arg k v)) before j (omega (arith, w)))
+      rw (← a) (ap (λ (x : B). given x next.at) o, m ∙ splice-sets (arg_words k (pooled_arg k v)) before 0 (omega (arith, w)))
 
-pub stored-fixed : (xs s : List ℕ) (p room j : ℕ) (words : List ℕ) (r : ReadField)
-    → answer_of_field r ≡ and_then (fixed_at xs s p) (λ x q. given 0 q) → FieldStored (field_at errata (fixed xs) s p room) j words words r
+-- a span's two words, put at the start
+pub two-put : (ws part : List ℕ) (a b : ℕ) → 2 ≤ length ws → part ≡ a ∷ b ∷ [] → part ++ drop 2 ws ≡ sets ws 0 (a ∷ b ∷ [])
+two-put (x ∷ y ∷ ws) part a b l e = rw e
+two-put [] part a b l e = absurd (omega arith)
+two-put (x ∷ []) part a b l e = absurd (omega arith)
+
+-- and two more behind them
+pub four-put : (ws part more : List ℕ) (a b c d : ℕ) → 4 ≤ length ws → part ≡ a ∷ b ∷ [] → more ≡ c ∷ d ∷ [] → put_mid 2 2 (part ++ drop 2 ws) more ≡ sets ws 0 (a ∷ b ∷ c ∷ d ∷ [])
+four-put (x ∷ y ∷ z ∷ w ∷ ws) part more a b c d l e f = rw (e, f)
+four-put [] part more a b c d l e f = absurd (omega arith)
+four-put (x ∷ []) part more a b c d l e f = absurd (omega arith)
+four-put (x ∷ y ∷ []) part more a b c d l e f = absurd (omega arith)
+four-put (x ∷ y ∷ z ∷ []) part more a b c d l e f = absurd (omega arith)
+
+pub stored-fixed : (xs s : List ℕ) (p room : ℕ) (words : List ℕ) (r : Result (Unit × Cursor) WireError)
+    → answer_of r ≡ fixed_at xs s p → WordsStored (field_at errata (fixed xs) s p room) 0 words words r
 unfolding field_at
-stored-fixed xs s p room j words r e = by (fixed_at xs s p) e
+stored-fixed xs s p room words r e = by (fixed_at xs s p) e
   where
-    by : (a : Answer Unit) → answer_of_field r ≡ and_then a (λ x q. given 0 q)
-        → FieldStored (and_then a (λ x q. given (record { words = []; records = 0 }) q)) j words words r
-    by (given x q) h = (h, sym (splice-nil j words))
+    by : (a : Answer Unit) → answer_of r ≡ a
+        → WordsStored (and_then a (λ x q. given (record { words = []; records = 0 }) q)) 0 words words r
+    by (given x q) h = (h, sym (splice-nil 0 words))
     by (refused q) h = h
-
--- only a table asks for room
-pub roomless : (k : Kind) (s : List ℕ) (p room : ℕ) → is_table k ≡ 0 → field_at errata (arg k) s p 0 ≡ field_at errata (arg k) s p room
-unfolding field_at arg_at
-roomless k s p room h = rw ((tableless k h).no_room errata s p room)
 
 -- One turn: a field, then the fields left
 
 -- the last table that has records, behind a field at p with so many
-abbrev pub place_after : ℕ → ℕ → TablePlace → TablePlace
-place_after own p last = cond (eqb own 0) last (record { records = own; start = p })
+abbrev pub place_after : ℕ → ℕ → Option TablePlace → Option TablePlace
+place_after own p last = cond (eqb own 0) last (Some (record { records = own; start = p }))
 
 own-tape : (k : Kind) (v : Located k) → used k (pooled_arg k v) ≡ length (arg_tape k v)
 own-tape k v = (laws errata k).used-tape v
@@ -83,7 +95,7 @@ own-tape k v = (laws errata k).used-tape v
 pub no-records : (k : Kind) → Tableless (kind k) → (v : Located k) → used k (pooled_arg k v) ≡ 0
 no-records k t v = own-tape k v ∙ ap length (t.no-tape v)
 
-own-table : (k : Kind) (s : List ℕ) (p room : ℕ) (v : Located k) (q : ℕ) (last : TablePlace) → arg_at errata k s p room ≡ given v q
+own-table : (k : Kind) (s : List ℕ) (p room : ℕ) (v : Located k) (q : ℕ) (last : Option TablePlace) → arg_at errata k s p room ≡ given v q
     → table_after k v last ≡ place_after (length (arg_tape k v)) p last
 unfolding arg_at
 own-table k s p room v q last e =
@@ -98,18 +110,46 @@ own-table k s p room v q last e =
         let w = given-value (record { start = p; entries = t }) x m q h1 in
         rw (← w, length-flatten t))
 
--- what was answered, by what was stored
-module _ (j : ℕ) (before stored : List ℕ) (r : ReadField) where
-  answer-refused : (a : Answer FieldRead) (e : Refusal) → answer_of_field r ≡ refused e → FieldStored a j before stored r → a ≡ refused e
-  answer-refused (given x n) e h g = let z : ◌≡◌ {A = ℕ} 0 1 = cc in absurd (omega arith)
-  answer-refused (refused x) e h g = ap (λ (z : Refusal). refused z) (cc)
+-- A field that is no table asks for no room and has no records
 
-  answer-given : {G : Type 0} (a : Answer FieldRead) (own q : ℕ) → answer_of_field r ≡ given own q → FieldStored a j before stored r
-      → ((x : FieldRead) → a ≡ given x q → x.records ≡ own → stored ≡ splice j x.words before → G) → G
-  answer-given (given x n) own q h g go =
-      let e : ◌≡◌ {A = Answer ℕ} (given x.records n) (given own q) = sym g.0 ∙ h in
-      go x (ap (given x) (given-next x.records own n q e)) (given-value x.records own n q e) g.1
-  answer-given (refused x) own q h g go = let z : ◌≡◌ {A = ℕ} 0 1 = cc in absurd (omega arith)
+abbrev pub Plain : Field → Type 0
+Plain (fixed xs) = Unit
+Plain (arg k) = is_table k ≡ 0
+
+pub recordless : (f : Field) → Plain f → (s : List ℕ) (p room : ℕ) (x : FieldRead) (q : ℕ) → field_at errata f s p room ≡ given x q → x.records ≡ 0
+unfolding field_at
+recordless (fixed xs) h s p room x q e =
+    then-go (fixed_at xs s p) _ x q e (λ u n e1 h1. rw (← (given-value (record { words = []; records = 0 }) x n q h1)))
+recordless (arg k) h s p room x q e =
+    then-go (arg_at errata k s p room) _ x q e (λ v n e1 h1. rw (← (given-value (read_of k v) x n q h1)) (no-records k (tableless k h) v))
+
+roomless : (f : Field) → Plain f → (s : List ℕ) (p room : ℕ) → field_at errata f s p 0 ≡ field_at errata f s p room
+unfolding field_at arg_at
+roomless (fixed xs) h s p room = refl
+roomless (arg k) h s p room = rw ((tableless k h).no_room errata s p room)
+
+pub plain-stored : (f : Field) → Plain f → (s : List ℕ) (p room : ℕ) (before after : List ℕ) (r : Result (Unit × Cursor) WireError)
+    → WordsStored (field_at errata f s p 0) 0 before after r → FieldStored (field_at errata f s p room) 0 before after (without_records r)
+plain-stored f plain s p room before after r stored = go (field_at errata f s p room) refl r (rw (roomless f plain s p room) at stored)
+  where
+    go : (a : Answer FieldRead) → field_at errata f s p room ≡ a → (r : Result (Unit × Cursor) WireError) → WordsStored a 0 before after r → FieldStored a 0 before after (without_records r)
+    go (given x q) e (Ok (u, next)) g = (rw (recordless f plain s p room x q e, given-next u tt next.at q g.0) refl, g.1)
+    go (given x q) e (Err y) g = let h = g.0 in let z : ◌≡◌ {A = ℕ} 0 1 = cc in absurd (omega arith)
+    go (refused x) e (Ok (u, next)) g = let z : ◌≡◌ {A = ℕ} 0 1 = cc in absurd (omega arith)
+    go (refused x) e (Err y) g = let same : refusal y ≡ x = cc in ap refused same
+
+-- what was answered, by what was stored
+module _ (j : ℕ) (before stored : List ℕ) where
+  answer-refused : (a : Answer FieldRead) (e : WireError) → FieldStored a j before stored (Err e) → a ≡ refused (refusal e)
+  answer-refused (given x n) e g = let h = g.0 in let z : ◌≡◌ {A = ℕ} 0 1 = cc in absurd (omega arith)
+  answer-refused (refused x) e g = let same : x ≡ refusal e = cc in ap refused same
+
+  answer-given : {G : Type 0} (a : Answer FieldRead) (own : ℕ) (next : Cursor) → FieldStored a j before stored (Ok (own, next))
+      → ((x : FieldRead) → a ≡ given x next.at → x.records ≡ own → stored ≡ splice j x.words before → G) → G
+  answer-given (given x n) own next g go =
+      let e : ◌≡◌ {A = Answer ℕ} (given x.records n) (given own next.at) = sym g.0 in
+      go x (ap (given x) (given-next x.records own n next.at e)) (given-value x.records own n next.at e) g.1
+  answer-given (refused x) own next g go = let z : ◌≡◌ {A = ℕ} 0 1 = cc in absurd (omega arith)
 
 -- words before those of the fields behind
 abbrev pub behind : List ℕ → Answer FieldsRead → Answer FieldsRead
@@ -141,7 +181,7 @@ module _ (s : List ℕ) (p room : ℕ) where
       let a = arg-within errata k s p room v m e1 in
       rw (← w) (omega (arith, own-tape k v, a.fits), own-width k (pooled_arg k v)))
 
-module _ (fs : List Field) (s : List ℕ) (p room : ℕ) (last : TablePlace) where
+module _ (fs : List Field) (s : List ℕ) (p room : ℕ) (last : Option TablePlace) where
   pub field-refused : (f : Field) (e : Refusal) → field_at errata f s p room ≡ refused e → scan_at errata (f ∷ fs) s p room last ≡ refused e
   unfolding field_at scan_at fields_at
   field-refused (fixed xs) e h = rw (then-stop (fixed_at xs s p) _ e h)
@@ -186,100 +226,83 @@ module _ (fs : List Field) (s : List ℕ) (p room : ℕ) (last : TablePlace) whe
       rw (field-given f x q e)
       (stored-behind x.words (scan_at errata fs s q (room - x.records) (place_after x.records p last)) j before after r (omega (arith, wide)) (rw (wide, ← n) k))
 
+-- words stored in a part of the memory are stored in the memory
+pub part-stored : (a k : ℕ) (ws l : List ℕ) → a + k ≡ length l → take a l ++ (splice 0 ws (take k (drop a l)) ++ drop k (drop a l)) ≡ splice a ws l
+unfolding splice
+part-stored a k ws l e =
+    let all : take k (drop a l) ≡ drop a l = take_all k (drop a l) (omega (arith, length-drop a l)) in
+    let none : drop k (drop a l) ≡ [] = drop_of_length-le (drop a l) {i = k} (omega (arith, length-drop a l)) in
+    let rest : ws ++ drop (0 + length ws) (drop a l) ++ [] ≡ ws ++ drop (a + length ws) l =
+    append-nil (ws ++ drop (0 + length ws) (drop a l)) ∙ (rw (zero-add (length ws), drop-drop (length ws) a l)) in
+    rw (all, none) (ap (λ (r : List ℕ). take a l ++ r) rest ∙ sym (append_assoc (take a l) ws (drop (a + length ws) l)))
+
 -- The fields left
 
-abbrev pub AllStored : List ℕ → ℕ → List ℕ → ℕ → ℕ → List ℕ → List ℕ → ReadFields → Type 0
-AllStored layout present s from room before after r = FieldsStored (scan_at errata (select (flags_of 13 present) (map field_of layout)) s from room no_table) 0 before after r
+abbrev pub AllStored : List Field → List ℕ → ℕ → ℕ → List ℕ → List ℕ → ReadFields → Type 0
+AllStored fields s from room before after r = FieldsStored (scan_at errata fields s from room None) 0 before after r
 
 -- What is left, done, does the whole
-pub record Going (layout : List ℕ) (present : ℕ) (s : List ℕ) (from room : ℕ) (words₀ words : List ℕ) (flags weight records start left at j i : ℕ) : Type 0 where
-  pub fs : List Field
-  pub unread : Left layout weight flags i fs
-  pub fits : j + widths fs ≤ length words
+pub record Going (fields : List Field) (s : List ℕ) (from room : ℕ) (words₀ words : List ℕ) (last : Option TablePlace) (left : ℕ) (at : Cursor) (j : ℕ) (others : List Field) : Type 0 where
+  pub fits : j + widths others ≤ length words
   pub same : length words ≡ length words₀
-  pub rest : (after : List ℕ) (r : ReadFields)
-      → FieldsStored (scan_at errata fs s at left (record { records = records; start = start })) j words after r
-      → AllStored layout present s from room words₀ after r
+  pub rest : (after : List ℕ) (r : ReadFields) → FieldsStored (scan_at errata others s at.at left last) j words after r → AllStored fields s from room words₀ after r
 
-pub going : (layout : List ℕ) (present : ℕ) (s : List ℕ) (from room : ℕ) (words : List ℕ) → present < 8192 → length layout ≤ 13
-    → widths (select (flags_of 13 present) (map field_of layout)) ≤ length words → Going layout present s from room words words present 4096 0 0 room from 0 0
-going layout present s from room words h l w =
-    record {
-      fs = select (flags_of 13 present) (map field_of layout);
-      unread = all_left layout present h l;
-      fits = omega arith;
-      same = refl;
-      rest = λ after r g. g;
-    }
+pub going : (fields : List Field) (s : List ℕ) (from : Cursor) (room : ℕ) (words : List ℕ) → widths fields ≤ length words
+    → Going fields s from.at room words words None room from 0 fields
+going fields s from room words w = record { fits = omega arith; same = refl; rest = λ after r g. g }
 
-module _ {layout : List ℕ} {present : ℕ} {s : List ℕ} {from room : ℕ} {words₀ words : List ℕ} {flags weight records start left at j i : ℕ}
-    (go : Going layout present s from room words₀ words flags weight records start left at j i) where
-  abbrev last : TablePlace
-  last = record { records = records; start = start }
-
-  pub at-end : length layout ≤ i → AllStored layout present s from room words₀ words (fields.Value last at)
+module _ {fields : List Field} {s : List ℕ} {from room : ℕ} {words₀ words : List ℕ} {last : Option TablePlace} {left : ℕ} {at : Cursor} {j : ℕ} {others : List Field}
+    (go : Going fields s from room words₀ words last left at j others) where
+  pub at-end : others ≡ [] → AllStored fields s from room words₀ words (Ok (last, at))
   unfolding scan_at fields_at args_words last_table
-  at-end h = go.rest words (fields.Value last at) (rw (none_left layout weight flags i go.fs go.unread h) (refl, sym (splice-nil j words)))
+  at-end e = go.rest words (Ok (last, at)) (rw e (refl, sym (splice-nil j words)))
 
-  module _ (h : i < length layout) where
-    abbrev here : Field
-    here = field_of (get_or layout i 0)
+  module _ (here : Field) (next_ones : List Field) (e : others ≡ here ∷ next_ones) where
+    wide : j + (width here + widths next_ones) ≤ length words
+    wide = rw e at go.fits
 
-    -- a field that is absent
-    pub turn-absent : flags < weight → Going layout present s from room words₀ words flags (weight / 2) records start left at j (i + 1)
-    turn-absent a =
-        record {
-          fs = go.fs;
-          unread = absent-left layout weight flags i go.fs h go.unread a;
-          fits = go.fits;
-          same = go.same;
-          rest = go.rest;
-        }
+    pub words-here : width here ≤ length (drop j words)
+    words-here = omega (arith, wide, length-drop j words)
 
-    module _ (a : weight ≤ flags) where
-      turn : Present layout weight flags i go.fs
-      turn = present-left layout weight flags i go.fs h go.unread a
+    -- the words behind word j are lent as a part
+    module _ (part : List ℕ) (k : ℕ) (whole : j + k ≡ length words) where
+      abbrev stored : List ℕ
+      stored = take j words ++ (part ++ drop k (drop j words))
 
-      wide : j + (width here + widths turn.others) ≤ length words
-      wide = rw turn.first at go.fits
+      abbrev lent : List ℕ
+      lent = take k (drop j words)
 
-      pub words-here : j + width here ≤ length words
-      words-here = omega (arith, wide)
+      pub turn-refused : (e : WireError) → FieldStored (field_at errata here s at.at left) 0 lent part (Err e)
+          → (after : List ℕ) (r : ReadFields) → answer_of r ≡ refused (refusal e) → AllStored fields s from room words₀ after r
+      turn-refused x g after r h =
+          let f = answer-refused 0 lent part (field_at errata here s at.at left) x g in
+          go.rest after r (rw (e, field-refused next_ones s at.at left last here (refusal x) f) h)
 
-      module _ (stored : List ℕ) (q : ReadField) (g : FieldStored (field_at errata here s at left) j words stored q) where
-        pub turn-refused : (e : Refusal) → answer_of_field q ≡ refused e → (after : List ℕ) (r : ReadFields) → answer_of_fields r ≡ refused e
-            → AllStored layout present s from room words₀ after r
-        turn-refused e b after r k =
-            let f = answer-refused j words stored q (field_at errata here s at left) e b g in
-            go.rest after r (rw (turn.first, field-refused turn.others s at left last here e f) k)
+      module _ (own : ℕ) (next : Cursor) (g : FieldStored (field_at errata here s at.at left) 0 lent part (Ok (own, next))) where
+        pub own-fits : own ≤ left
+        own-fits =
+            answer-given 0 lent part (field_at errata here s at.at left) own next g
+            (λ x e m n. rw m at (field_fits s at.at left here x next.at e).0)
 
-        module _ (own next : ℕ) (b : answer_of_field q ≡ given own next) where
-          pub own-fits : own ≤ left
-          own-fits =
-              answer-given j words stored q (field_at errata here s at left) own next b g
-              (λ x e m n. rw m at (field_fits s at left here x next e).0)
+        turn : (place : Option TablePlace) (left' : ℕ) → place ≡ place_after own at.at last → left' ≡ left - own
+            → Going fields s from room words₀ stored place left' next (j + width here) next_ones
+        turn place left' table-is room' =
+            answer-given 0 lent part (field_at errata here s at.at left) own next g
+            (λ x d m n.
+            let all : stored ≡ splice j x.words words = (rw n) ∙ part-stored j k x.words words whole in
+            let same : length stored ≡ length words = ap length all ∙ splice-length j x.words [] words (omega (arith, wide, (field_fits s at.at left here x next.at d).1)) in
+            record {
+              fits = omega (arith, wide);
+              same = same ∙ go.same;
+              rest =
+                  λ after r h.
+                  go.rest after r
+                  (rw e (turn-given next_ones s at.at left last here x next.at j words stored d all (omega (arith, wide)) after r (rw (m, ← table-is, ← room') h)));
+            })
 
-          present-going : (records' start' left' : ℕ) → length stored ≡ length words → record { records = records'; start = start' } ≡ place_after own at last
-              → left' ≡ left - own → Going layout present s from room words₀ stored (flags - weight) (weight / 2) records' start' left' next (j + width here) (i + 1)
-          present-going records' start' left' same place room' =
-              answer-given j words stored q (field_at errata here s at left) own next b g
-              (λ x e m n.
-              record {
-                fs = turn.others;
-                unread = turn.left;
-                fits = omega (arith, wide);
-                same = same ∙ go.same;
-                rest =
-                    λ after r k.
-                    go.rest after r
-                    (rw turn.first (turn-given turn.others s at left last here x next j words stored e n words-here after r (rw (m, ← place, ← room') k)));
-              })
+        -- a field without records, and a table that has some
+        pub turn-plain : own ≡ 0 → Going fields s from room words₀ stored last left next (j + width here) next_ones
+        turn-plain z = turn last left (rw z) (omega arith)
 
-          -- a field without records, and a table that has some
-          pub turn-plain : own ≡ 0 → length stored ≡ length words
-              → Going layout present s from room words₀ stored (flags - weight) (weight / 2) records start left next (j + width here) (i + 1)
-          turn-plain z same = present-going records start left same (rw z) (omega arith)
-
-          pub turn-table : (own ≡ 0 → ⊥) → length stored ≡ length words
-              → Going layout present s from room words₀ stored (flags - weight) (weight / 2) own at (left - own) next (j + width here) (i + 1)
-          turn-table z same = present-going own at (left - own) same (rw (ne_eqb own 0 z)) refl
+        pub turn-table : (own ≡ 0 → ⊥) → Going fields s from room words₀ stored (Some (record { records = own; start = at.at })) (left - own) next (j + width here) next_ones
+        turn-table z = turn (Some (record { records = own; start = at.at })) (left - own) (rw (ne_eqb own 0 z)) refl

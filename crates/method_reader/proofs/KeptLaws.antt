@@ -1,6 +1,8 @@
 -- What was read is made again of its words: its numbers fit their width, so that the cut changes nothing.
-use mathlib.Core.Path.{◌≡◌, sym, ap, ◌∙◌}
-use mathlib.Core.Option.{some}
+use mathlib.Core.Path.{◌≡◌, refl, sym, ap, ◌∙◌}
+use Rattle.std.specs.Prelude.{Option, None, Some, Ok, IsSome}
+use Rattle.method_reader.specs.declared.CallRead.{CallRead}
+use Rattle.method_reader.specs.declared.HeaderRead.{HeaderRead}
 use mathlib.Core.List.{List}
 use Prim.Native.Nat.{ℕ, ◌^◌, ◌/◌, ◌%◌, ◌<◌}
 use native.Mathlib.Nat.{mod-eq_of_lt}
@@ -29,14 +31,8 @@ use Rattle.method_words.specs.InWords.{words_outcome, in_words}
 use Rattle.method_words.specs.AnswerOf.{command_of_known}
 use Rattle.method_words.specs.declared.Call.{Call}
 use Rattle.method_words.specs.declared.HeaderWords.{HeaderWords}
-use Rattle.method_words.specs.declared.KnownCommand.{KnownCommand}
-use Rattle.method_words.specs.declared.KnownCommand.TheVariants.{Known, Unknown}
-use Rattle.method_words.proofs.InWordsLaws.{at-case, ReadToo, read-too}
+use Rattle.method_words.proofs.InWordsLaws.{ReadToo, read-too}
 use Rattle.method_reader.specs.AnswerOf.{answer_of_call, answer_of_header_words}
-use Rattle.method_reader.specs.declared.ReadCall.{ReadCall}
-use Rattle.method_reader.specs.declared.ReadCall.TheVariants as call-read
-use Rattle.method_reader.specs.declared.ReadHeaderWords.{ReadHeaderWords}
-use Rattle.method_reader.specs.declared.ReadHeaderWords.TheVariants as header_read
 use Rattle.method_reader.proofs.ReaderLaws.{args_read}
 
 -- what is answered was read
@@ -52,7 +48,7 @@ filled-value used tape (refused r) x k n memory e h = let z : ◌≡◌ {A = ℕ
 module _ (letters : Letters) (s : List ℕ) (at room : ℕ) (o : Octets s) where
   pub command-kept : (z : Command Located) (q : ℕ) → command_at letters s at room ≡ given z q
       → let x = call_of (command_with_tape z).value in
-      command_with x.class x.method x.words ≡ some (command_with_tape z).value
+      command_with x.class x.method x.words ≡ Some (command_with_tape z).value
   unfolding command_at command_with
   command-kept z q e =
       then-go (uint_at 2 s at) _ z q e
@@ -65,7 +61,7 @@ module _ (letters : Letters) (s : List ℕ) (at room : ℕ) (o : Octets s) where
       (λ vs t e3 h3.
       let located : call c m vs ≡ z = given-value _ _ t q (need-given (leb (length s) t) (not_written t) (given (call c m vs) t) z q h3).1 in
       let ws = args_words fs (pooled_args fs vs) in
-      rw (← located, there.0) (ap (λ v. some (call c m v)) (args_read letters fs s r room vs t (drop (length ws) (zeros 8)) o e3)))))
+      rw (← located, there.0) (ap (λ v. Some (call c m v)) (args_read letters fs s r room vs t (drop (length ws) (zeros 8)) o e3)))))
 
   pub header-kept : (z : Header Located) (q : ℕ) → header_at letters s at room ≡ given z q
       → let x = header_words (header_with_tape z).value in
@@ -95,7 +91,7 @@ module _ (letters : Letters) (s : List ℕ) (at room : ℕ) (o : Octets s) where
 
 module _ (letters : Letters) (s : List ℕ) (at used : ℕ) (tape : List ℕ) (o : Octets s) where
   read-command-kept : (x : Command Pooled) (k n : ℕ) (memory : List ℕ) → read_command letters s at used tape ≡ outcome (given (record { value = x; count = k }) n) memory
-      → command_with (call_of x).class (call_of x).method (call_of x).words ≡ some x
+      → command_with (call_of x).class (call_of x).method (call_of x).words ≡ Some x
   unfolding read_command
   read-command-kept x k n memory e =
       filled-value used tape (and_then (command_at letters s at (room_of used tape)) (λ v q. given (command_with_tape v) q)) x k n memory e
@@ -118,31 +114,33 @@ module _ (letters : Letters) (s : List ℕ) (at used : ℕ) (tape : List ℕ) (o
 
   -- the readers, from what their readers in words answer
 
-  module _ (r : ReadCall) (w t before : List ℕ) (h : words_outcome (answer_of_call r w) w t ≡ in_words call_of (λ x. x.words) before (read_command letters s at used tape)) where
-    module _ (c m k : ℕ) (next : Cursor) (same : r ≡ call-read.Value c m k next) (x : KnownCommand) (made : command_of_known x ≡ command_with c m w) where
-      read-call : ReadToo call_of (read_command letters s at used tape) (record { class = c; method = m; words = w }) k next.at t
-      read-call =
-          read-too call_of (λ x. x.words) before (read_command letters s at used tape) (record { class = c; method = m; words = w }) k next.at w t (at-case answer_of_call h same)
+  module _ (x : CallRead) (next : Cursor) (w t before : List ℕ)
+      (h : words_outcome (answer_of_call (Ok (x, next)) w) w t ≡ in_words call_of (λ x. x.words) before (read_command letters s at used tape)) where
+    read-call : ReadToo call_of (read_command letters s at used tape) (record { class = x.class; method = x.method; words = w }) x.records next.at t
+    read-call = read-too call_of (λ x. x.words) before (read_command letters s at used tape) (record { class = x.class; method = x.method; words = w }) x.records next.at w t h
 
-      is_known : command_of_known x ≡ some read-call.value
-      is_known =
-          made ∙ ap (λ (y : Call). command_with y.class y.method y.words) read-call.made
-          ∙ read-command-kept read-call.value k next.at t read-call.read
+    is_known : command_with x.class x.method w ≡ Some read-call.value
+    is_known =
+        ap (λ (y : Call). command_with y.class y.method y.words) read-call.made
+        ∙ read-command-kept read-call.value x.records next.at t read-call.read
 
-      pub call_known : (y : CodeCommand) → x ≡ Known y → outcome (given (record { value = command_of y; count = k }) next.at) t ≡ read_command letters s at used tape
-      call_known y e =
-          let there = ap command_of_known (sym e) ∙ is_known in
-          let value : command_of y ≡ read-call.value = cc in
-          rw value (sym read-call.read)
+    pub call_known : (y : CodeCommand) → Some (command_of y) ≡ command_with x.class x.method w
+        → outcome (given (record { value = command_of y; count = x.records }) next.at) t ≡ read_command letters s at used tape
+    call_known y e =
+        let there = e ∙ is_known in
+        let value : command_of y ≡ read-call.value = cc in
+        rw value (sym read-call.read)
 
-      pub call-unknown : {G : Type 0} → x ≡ Unknown → G
-      call-unknown e = let there = ap command_of_known (sym e) ∙ is_known in let z : ◌≡◌ {A = ℕ} 0 1 = cc in absurd (omega arith)
+    pub call_there : (o : Option CodeCommand) → command_of_known o ≡ command_with x.class x.method w → IsSome o
+    call_there (Some y) e = refl
+    call_there None e = let there = e ∙ is_known in let z : ◌≡◌ {A = ℕ} 0 1 = cc in absurd (omega arith)
 
-  module _ (r : ReadHeaderWords) (w t before : List ℕ) (h : words_outcome (answer_of_header_words r w) w t ≡ in_words header_words (λ x. x.words) before (read_header letters s at used tape)) where
-    pub header_made : (c n p k : ℕ) (next : Cursor) (y : Header Pooled) → r ≡ header_read.Value c n p k next → y ≡ header_with c n (p % 8192) w
-        → outcome (given (record { value = y; count = k }) next.at) t ≡ read_header letters s at used tape
-    header_made c n p k next y same made =
-        let x = read-too header_words (λ x. x.words) before (read_header letters s at used tape) (record { class = c; body_size = n; present = p; words = w }) k next.at w t (at-case answer_of_header_words h same) in
-        let value : y ≡ x.value
-        = made ∙ ap (λ (v : HeaderWords). header_with v.class v.body_size (v.present % 8192) v.words) x.made ∙ read-header-kept x.value k next.at t x.read in
-        rw value (sym x.read)
+  pub header_made : (x : HeaderRead) (next : Cursor) (w t before : List ℕ) (y : Header Pooled)
+      → words_outcome (answer_of_header_words (Ok (x, next)) w) w t ≡ in_words header_words (λ x. x.words) before (read_header letters s at used tape)
+      → y ≡ header_with x.class x.body_size (x.present % 8192) w
+      → outcome (given (record { value = y; count = x.records }) next.at) t ≡ read_header letters s at used tape
+  header_made h next w t before y e made =
+      let x = read-too header_words (λ x. x.words) before (read_header letters s at used tape) (record { class = h.class; body_size = h.body_size; present = h.present; words = w }) h.records next.at w t e in
+      let value : y ≡ x.value
+      = made ∙ ap (λ (v : HeaderWords). header_with v.class v.body_size (v.present % 8192) v.words) x.made ∙ read-header-kept x.value h.records next.at t x.read in
+      rw value (sym x.read)

@@ -1,12 +1,13 @@
 -- The login string: where its NUL stands, and what the reader answers by it.
-use mathlib.Core.Path.{◌≡◌, refl, ap, ◌∙◌}
-use mathlib.Core.Bool.{Bool, true, false, cond}
-use mathlib.Core.Option.{Option, none, some}
+use mathlib.Core.Path.{◌≡◌, refl, sym, ap, ◌∙◌}
+use mathlib.Core.Bool.{Bool, true, false, cond, ◌&&◌}
+use Rattle.std.specs.Prelude.{Option, None, Some}
 use mathlib.Core.List.{List, [], ◌∷◌}
 use Prim.Native.Nat.{ℕ, suc, ◌+◌, ◌-◌, ◌≤◌, ◌<◌}
+use native.Mathlib.Nat.{zero-add}
 use native.Mathlib.Omega.{arith}
-use lib.ListN.{length, take, drop, get_or, length-drop}
-use lib.Seq.{drop-cons, length-take-le}
+use lib.ListN.{length, take, drop, length-drop}
+use lib.Seq.{length-take-le}
 use lib.Dec.{eqb}
 use Rattle.utf8.specs.Utf8.{utf8}
 use Rattle.types.specs.Answer.{Refusal, given, refused, not_utf8, not_written}
@@ -17,132 +18,122 @@ use Rattle.tables.specs.Letters.{Letters}
 use Rattle.method.specs.Fields.{login}
 use Rattle.method.specs.Reading.{arg_at}
 use Rattle.method.specs.Kinds.Login.{Login, one_more, until_nul, user_length, login_spans, login_utf8, login_in}
-use Rattle.method_reader.specs.Fields.{nul_or}
+use Rattle.std.specs.List.{position_from}
+use Rattle.std.specs.Cmp.Lexicographic.{pointwise}
 
--- The octets from i up to the end, and the place of their first NUL or the end
+-- The octets from i up to the end
 
 abbrev pub up_to : List ℕ → ℕ → ℕ → List ℕ
 up_to s i end = take (end - i) (drop i s)
 
-abbrev pub nul_in : List ℕ → ℕ → ℕ → ℕ
-nul_in s i end = nul_or i end (until_nul (up_to s i end))
+-- The place of the first NUL, counted from i on
 
-one_on : (i end : ℕ) (o : Option ℕ) → nul_or i end (one_more o) ≡ nul_or (i + 1) end o
-one_on i end none = refl
-one_on i end (some n) = omega arith
+abbrev nul_from : ℕ → Option ℕ → Option ℕ
+nul_from i None = None
+nul_from i (Some n) = Some (i + n)
 
-pub up-to-step : (s : List ℕ) (i end : ℕ) → i < end → end ≤ length s → up_to s i end ≡ get_or s i 0 ∷ up_to s (i + 1) end
-up-to-step s i end h l =
-    let e : end - i ≡ suc (end - (i + 1)) = omega arith in
-    let j : suc i ≡ i + 1 = omega arith in
-    rw (e, drop-cons s i 0 (omega arith), j)
+one_on : (i : ℕ) (o : Option ℕ) → nul_from i (one_more o) ≡ nul_from (i + 1) o
+one_on i None = refl
+one_on i (Some n) = let e : i + suc n ≡ i + 1 + n = omega arith in ap Some e
 
-module _ (s : List ℕ) (i end : ℕ) (before : i < end) (inside : end ≤ length s) where
-  pub nul-here : eqb (get_or s i 0) 0 ≡ true → nul_in s i end ≡ i
-  unfolding until_nul
-  nul-here e = rw (up-to-step s i end before inside, e) (omega arith)
-
-  pub nul-later : eqb (get_or s i 0) 0 ≡ false → nul_in s i end ≡ nul_in s (i + 1) end
-  unfolding until_nul
-  nul-later e = rw (up-to-step s i end before inside, e) (one_on i end (until_nul (up_to s (i + 1) end)))
-
-pub nul-end : (s : List ℕ) (i end : ℕ) → end ≤ i → nul_in s i end ≡ end
+from-place : (i : ℕ) (xs : List ℕ) → position_from (λ x. eqb x 0) i xs ≡ nul_from i (until_nul xs)
 unfolding until_nul
-nul-end s i end h =
-    let e : end - i ≡ 0 = omega arith in
-    rw e
+from-place i [] = refl
+from-place i (x ∷ xs) = by (eqb x 0) (from-place (i + 1) xs)
+  where
+    by : (b : Bool) → position_from (λ x. eqb x 0) (i + 1) xs ≡ nul_from (i + 1) (until_nul xs)
+        → cond b (Some i) (position_from (λ x. eqb x 0) (i + 1) xs) ≡ nul_from i (cond b (Some 0) (one_more (until_nul xs)))
+    by true e = let here : i ≡ i + 0 = omega arith in ap Some here
+    by false e = e ∙ sym (one_on i (until_nul xs))
 
-until-inside : (xs : List ℕ) (n : ℕ) → until_nul xs ≡ some n → n < length xs
+first-nul : (xs : List ℕ) → position_from (λ x. eqb x 0) 0 xs ≡ until_nul xs
+first-nul xs = from-place 0 xs ∙ from-zero (until_nul xs)
+  where
+    from-zero : (o : Option ℕ) → nul_from 0 o ≡ o
+    from-zero None = refl
+    from-zero (Some n) = ap Some (zero-add n)
+
+until-inside : (xs : List ℕ) (n : ℕ) → until_nul xs ≡ Some n → n < length xs
 unfolding until_nul
 until-inside [] n e = let z : ◌≡◌ {A = ℕ} 0 1 = cc in absurd (omega arith)
 until-inside (x ∷ xs) n e = here (eqb x 0) (until_nul xs) e (λ k h. until-inside xs k h)
   where
-    here : (b : Bool) (o : Option ℕ) → cond b (some 0) (one_more o) ≡ some n → ((k : ℕ) → o ≡ some k → k < length xs) → n < suc (length xs)
+    here : (b : Bool) (o : Option ℕ) → cond b (Some 0) (one_more o) ≡ Some n → ((k : ℕ) → o ≡ Some k → k < length xs) → n < suc (length xs)
     here true o h later = let zero : 0 ≡ n = cc in omega arith
-    here false none h later = let z : ◌≡◌ {A = ℕ} 0 1 = cc in absurd (omega arith)
-    here false (some k) h later = let next : suc k ≡ n = cc in omega (arith, later k refl)
+    here false None h later = let z : ◌≡◌ {A = ℕ} 0 1 = cc in absurd (omega arith)
+    here false (Some k) h later = let next : suc k ≡ n = cc in omega (arith, later k refl)
 
--- A NUL before the end, from its place
+user-inside : (xs : List ℕ) (n : ℕ) → user_length xs ≡ Some n → n + 1 < length xs
+user-inside [] n e = let z : ◌≡◌ {A = ℕ} 0 1 = cc in absurd (omega arith)
+user-inside (x ∷ xs) n e = by (eqb x 0) e
+  where
+    by : (b : Bool) → cond b (until_nul xs) None ≡ Some n → n + 1 < suc (length xs)
+    by true h = omega (arith, until-inside xs n h)
+    by false h = let z : ◌≡◌ {A = ℕ} 0 1 = cc in absurd (omega arith)
 
-pub record Found (s : List ℕ) (from end nul : ℕ) : Type 0 where
-  pub after : from ≤ nul
-  pub before : suc nul ≤ end
-  pub place : until_nul (up_to s from end) ≡ some (nul - from)
+-- by whether a NUL is first
 
-module _ (s : List ℕ) (from end nul : ℕ) (start : from ≤ end) (inside : end ≤ length s) (is : nul ≡ nul_in s from end) where
-  up-to-length : length (up_to s from end) ≡ end - from
-  up-to-length = length-take-le (end - from) (drop from s) (omega (arith, length-drop from s))
+pub user-none : (xs : List ℕ) → pointwise eqb (take 1 xs) (0 ∷ []) ≡ false → user_length xs ≡ None
+user-none [] e = refl
+user-none (x ∷ xs) e = by (eqb x 0) e
+  where
+    by : (b : Bool) → b && true ≡ false → cond b (until_nul xs) None ≡ None
+    by true h = let z : ◌≡◌ {A = ℕ} 0 1 = cc in absurd (omega arith)
+    by false h = refl
 
-  pub nul-missing : nul ≡ end → until_nul (up_to s from end) ≡ none
-  nul-missing e = go (until_nul (up_to s from end)) refl is
-    where
-      go : (o : Option ℕ) → until_nul (up_to s from end) ≡ o → nul ≡ nul_or from end o → o ≡ none
-      go none h p = refl
-      go (some n) h p = absurd (omega (arith, until-inside (up_to s from end) n h, up-to-length))
+user-is : (xs : List ℕ) → pointwise eqb (take 1 xs) (0 ∷ []) ≡ true → user_length xs ≡ until_nul (drop 1 xs)
+user-is [] e = let z : ◌≡◌ {A = ℕ} 0 1 = cc in absurd (omega arith)
+user-is (x ∷ xs) e = by (eqb x 0) e
+  where
+    by : (b : Bool) → b && true ≡ true → cond b (until_nul xs) None ≡ until_nul xs
+    by true h = refl
+    by false h = let z : ◌≡◌ {A = ℕ} 0 1 = cc in absurd (omega arith)
 
-  pub nul-found : (nul ≡ end → ⊥) → Found s from end nul
-  nul-found e = go (until_nul (up_to s from end)) refl is
-    where
-      go : (o : Option ℕ) → until_nul (up_to s from end) ≡ o → nul ≡ nul_or from end o → Found s from end nul
-      go none h p = absurd (e p)
-      go (some n) h p =
-          let near : n < end - from = rw up-to-length at (until-inside (up_to s from end) n h) in
-          let same : n ≡ nul - from = omega arith in
-          record { after = omega arith; before = omega arith; place = h ∙ ap some same }
+pub user-of : (xs text : List ℕ) (o : Option ℕ) → pointwise eqb (take 1 xs) (0 ∷ []) ≡ true → text ≡ drop 1 xs → o ≡ position_from (λ x. eqb x 0) 0 text → user_length xs ≡ o
+user-of xs text o e t p = user-is xs e ∙ ap until_nul (sym t) ∙ sym (p ∙ first-nul text)
 
 -- What is read of a long string that is there
 
 module _ (letters : Letters) (s : List ℕ) (at room : ℕ) where
-  pub login-refused : (e : Refusal) → long_str_at s at ≡ refused e → arg_at letters login s at room ≡ refused e
+  pub login-refused : {e : Refusal} → refused e ≡ long_str_at s at → arg_at letters login s at room ≡ refused e
   unfolding arg_at
-  login-refused e h = rw h
+  login-refused h = rw (← h)
 
-  module _ (v : Span) (end : ℕ) (read : long_str_at s at ≡ given v end) where
-    abbrev rest : List ℕ
-    rest = up_to s (v.start + 1) end
-
+  module _ (v : Span) (end : ℕ) (read : given v end ≡ long_str_at s at) where
     login-in : (o : Option ℕ) → user_length (octets_of s v) ≡ o → arg_at letters login s at room ≡ login_in s at v o end
     unfolding arg_at
-    login-in o e = rw (read, e)
+    login-in o e = rw (← read, e)
 
     pub login-inside : (end ≡ v.start + v.len) × (end ≤ length s)
-    login-inside = let l = long-start s at v end read in (l.1, l.2)
+    login-inside = let l = long-start s at v end (sym read) in (l.1, l.2)
 
-    -- its first octet, and the others
-    octets-then : v.start < end → octets_of s v ≡ get_or s v.start 0 ∷ rest
-    octets-then h =
-        let l = login-inside in
-        let n : v.len ≡ end - v.start = omega (arith, l.0) in
-        ap (λ (k : ℕ). take k (drop v.start s)) n ∙ up-to-step s v.start end h l.1
+    its-octets : up_to s v.start end ≡ octets_of s v
+    its-octets = let n : end - v.start ≡ v.len = omega (arith, login-inside.0) in ap (λ (k : ℕ). take k (drop v.start s)) n
 
-    pub login-empty : v.start ≡ end → arg_at letters login s at room ≡ refused (not_written at)
-    login-empty e =
-        let l = login-inside in
-        let n : v.len ≡ 0 = omega (arith, l.0) in
-        login-in none (ap (λ (k : ℕ). user_length (take k (drop v.start s))) n)
+    pub login-none : user_length (up_to s v.start end) ≡ None → arg_at letters login s at room ≡ refused (not_written at)
+    login-none e = login-in None (ap user_length (sym its-octets) ∙ e)
 
-    module _ (some-octets : v.start < end) where
-      pub login-other : eqb (get_or s v.start 0) 0 ≡ false → arg_at letters login s at room ≡ refused (not_written at)
-      login-other e = login-in none (ap user_length (octets-then some-octets) ∙ (rw e))
+    module _ (n : ℕ) (found : user_length (up_to s v.start end) ≡ Some n) where
+      pub nul-inside : v.start + 1 + n < end
+      nul-inside =
+          let l = login-inside in
+          let wide : length (up_to s v.start end) ≡ end - v.start = length-take-le (end - v.start) (drop v.start s) (omega (arith, length-drop v.start s, l.1)) in
+          omega (arith, l.0, user-inside (up_to s v.start end) n found, wide)
 
-      module _ (first : eqb (get_or s v.start 0) 0 ≡ true) where
-        user-is : user_length (octets_of s v) ≡ until_nul rest
-        user-is = ap user_length (octets-then some-octets) ∙ (rw first)
-
-        pub login-missing : until_nul rest ≡ none → arg_at letters login s at room ≡ refused (not_written at)
-        login-missing e = login-in none (user-is ∙ e)
-
-        pub login-found : (nul : ℕ) → Found s (v.start + 1) end nul
-            → arg_at letters login s at room
-            ≡ login_utf8 s (record { user = record { start = v.start + 1; len = nul - (v.start + 1) }; password = record { start = suc nul; len = end - suc nul } }) end
-        login-found nul f =
-            let l = login-inside in
-            let from : ℕ = v.start + 1 in
-            let start : v.start + (nul - from) + 2 ≡ suc nul = omega (arith, f.after) in
-            let len : v.len - (nul - from + 2) ≡ end - suc nul = omega (arith, f.after, f.before, l.0) in
-            let spans : login_spans v (nul - from) ≡ record { user = record { start = from; len = nul - from }; password = record { start = suc nul; len = end - suc nul } }
-            = λ i. record { user = record { start = from; len = nul - from }; password = record { start = start i; len = len i } } in
-            login-in (some (nul - from)) (user-is ∙ f.place) ∙ ap (λ (x : Login Span). login_utf8 s x end) spans
+      pub login-found : arg_at letters login s at room
+          ≡ login_utf8 s
+          (record {
+            user = record { start = v.start + 1; len = v.start + 1 + n - (v.start + 1) };
+            password = record { start = suc (v.start + 1 + n); len = end - suc (v.start + 1 + n) };
+          }) end
+      login-found =
+          let l = login-inside in
+          let user : n ≡ v.start + 1 + n - (v.start + 1) = omega arith in
+          let start : v.start + n + 2 ≡ suc (v.start + 1 + n) = omega arith in
+          let len : v.len - (n + 2) ≡ end - suc (v.start + 1 + n) = omega (arith, l.0) in
+          let spans : login_spans v n ≡ record { user = record { start = v.start + 1; len = v.start + 1 + n - (v.start + 1) }; password = record { start = suc (v.start + 1 + n); len = end - suc (v.start + 1 + n) } }
+          = λ i. record { user = record { start = v.start + 1; len = user i }; password = record { start = start i; len = len i } } in
+          login-in (Some n) (ap user_length (sym its-octets) ∙ found) ∙ ap (λ (x : Login Span). login_utf8 s x end) spans
 
 -- The user up to the NUL and the password behind it are UTF-8, or one is not
 

@@ -3,13 +3,14 @@ use mathlib.Core.Path.{◌≡◌, refl, sym, ap, ◌∙◌}
 use mathlib.Core.Bool.{Bool, true, false}
 use mathlib.Core.List.{List, [], ◌∷◌, ◌++◌, append-nil}
 use Prim.Native.Nat.{ℕ, ◌+◌, ◌-◌, ◌*◌, ◌≤◌}
-use native.Mathlib.Nat.{zero-add}
 use native.Mathlib.Omega.{arith}
 use borrow.Author.Tests.{eqb-true}
-use lib.ListN.{length, drop}
+use lib.ListN.{length}
 use lib.Dec.{leb, eqb}
 use Rattle.types.specs.Answer.{Answer, given, refused, and_then}
+use Rattle.std.specs.Prelude.{Option, None, Ok, Err}
 use Rattle.types.specs.AnswerOf.{refusal}
+use Rattle.types.specs.declared.Cursor.{Cursor}
 use Rattle.types.specs.Memory.{splice, outcome}
 use Rattle.types.specs.Records.{concat_map}
 use Rattle.types.specs.declared.WireError.{WireError}
@@ -33,11 +34,8 @@ use Rattle.method.specs.Writing.{TypedAll}
 use Rattle.method.proofs.LayoutLaws.{every-command}
 use Rattle.method.proofs.WordLaws.{args-words}
 use Rattle.method_words.specs.Words.{cut_args}
-use Rattle.method_reader.specs.Fields.{FieldsRead, table_after, last_table, scan_at, FieldsStored, no_table, table_filled}
-use Rattle.method_reader.specs.AnswerOf.{answer_of_fields}
+use Rattle.method_reader.specs.Fields.{FieldsRead, table_after, last_table, scan_at, FieldsStored, table_filled, records_in}
 use Rattle.method_reader.specs.declared.fields.TablePlace.{TablePlace}
-use Rattle.method_reader.specs.declared.fields.ReadFields.{ReadFields}
-use Rattle.method_reader.specs.declared.fields.ReadFields.TheVariants as fields
 use mathlib.Core.Path.{subst⁻¹}
 use mathlib.Core.Logic.{◌⊎◌, inl, inr}
 use Rattle.tables.specs.Letters.{errata}
@@ -96,7 +94,7 @@ property-tables ps =
     let e : tables properties ≡ 1 = unfold properties in refl in
     omega (arith, select-tables ps properties)
 
-pub no-tables : (fs : List Field) (vs : Args Located fs) (last : TablePlace) → tables fs ≡ 0 → (last_table fs vs last ≡ last) × (tape_of fs vs ≡ [])
+pub no-tables : (fs : List Field) (vs : Args Located fs) (last : Option TablePlace) → tables fs ≡ 0 → (last_table fs vs last ≡ last) × (tape_of fs vs ≡ [])
 unfolding last_table tape_of
 no-tables [] vs last e = (refl, refl)
 no-tables (fixed xs ∷ fs) vs last e = no-tables fs vs last e
@@ -105,13 +103,13 @@ no-tables (arg k ∷ fs) vs last e =
     rw (no-records k t vs.0, t.no-tape vs.0) (no-tables fs vs.1 last (omega arith))
 
 -- the tape at exit and the number of records, from the place of the table
-pub record Filled (letters : Letters) (s : List ℕ) (place : TablePlace) (used : ℕ) (tape : List ℕ) (rs : List Record) : Type 0 where
+pub record Filled (letters : Letters) (s : List ℕ) (place : Option TablePlace) (used : ℕ) (tape : List ℕ) (rs : List Record) : Type 0 where
   pub memory : table_filled letters s place used tape ≡ splice (used * tape_records.size) (concat_map tape_records.words rs) tape
-  pub count : place.records ≡ length rs
+  pub count : records_in place ≡ length rs
 
 module _ (letters : Letters) (s : List ℕ) (used : ℕ) (tape : List ℕ) where
   -- a table that was read at p is filled, or it has no records and the tape is left
-  pub one_table : (p q : ℕ) (t : TableIn) → arg_at letters table s p (room_of used tape) ≡ given t q → Filled letters s (table_after table t no_table) used tape (flatten t.entries)
+  pub one_table : (p q : ℕ) (t : TableIn) → arg_at letters table s p (room_of used tape) ≡ given t q → Filled letters s (table_after table t None) used tape (flatten t.entries)
   unfolding arg_at
   one_table p q t e =
       then-go (table_at letters s p (room_of used tape)) _ t q e
@@ -121,26 +119,26 @@ module _ (letters : Letters) (s : List ℕ) (used : ℕ) (tape : List ℕ) where
       (λ z.
       let none : flatten f ≡ [] = length-zero (flatten f) (length-flatten f ∙ eqb-true (size f) 0 z) in
       rw (z, none) (record { memory = sym (splice-nil (used * 6) tape); count = refl }))
-      (λ z. rw z (record { memory = rw z (unfold read_table in rw e1); count = sym (length-flatten f) }))))
+      (λ z. rw z (record { memory = unfold read_table in rw e1; count = sym (length-flatten f) }))))
 
   arg-filled : (k : Kind) (fs : List Field) (p room : ℕ) (v : Located k) (q : ℕ) (vs : Args Located fs) → is_table k + tables fs ≤ 1 → room ≡ room_of used tape
       → arg_at letters k s p room ≡ given v q
-      → (tables fs ≤ 1 → room - length (arg_tape k v) ≡ room_of used tape → Filled letters s (last_table fs vs no_table) used tape (tape_of fs vs))
-      → Filled letters s (last_table fs vs (table_after k v no_table)) used tape (arg_tape k v ++ tape_of fs vs)
+      → (tables fs ≤ 1 → room - length (arg_tape k v) ≡ room_of used tape → Filled letters s (last_table fs vs None) used tape (tape_of fs vs))
+      → Filled letters s (last_table fs vs (table_after k v None)) used tape (arg_tape k v ++ tape_of fs vs)
   arg-filled k fs p room v q vs h r e later = go (table_or_not k) h
     where
-      go : (o : Tableless (kind k) ⊎ (k ≡ table)) → count o + tables fs ≤ 1 → Filled letters s (last_table fs vs (table_after k v no_table)) used tape (arg_tape k v ++ tape_of fs vs)
+      go : (o : Tableless (kind k) ⊎ (k ≡ table)) → count o + tables fs ≤ 1 → Filled letters s (last_table fs vs (table_after k v None)) used tape (arg_tape k v ++ tape_of fs vs)
       go (inl t) n =
           let none = t.no-tape v in
           rw (no-records k t v, none) (later (omega arith) (omega (arith, ap length none)))
       go (inr w) n =
-          subst⁻¹ (λ (j : Kind). (x : Located j) → arg_at letters j s p room ≡ given x q → Filled letters s (last_table fs vs (table_after j x no_table)) used tape (arg_tape j x ++ tape_of fs vs)) w
+          subst⁻¹ (λ (j : Kind). (x : Located j) → arg_at letters j s p room ≡ given x q → Filled letters s (last_table fs vs (table_after j x None)) used tape (arg_tape j x ++ tape_of fs vs)) w
           (λ x f.
-          let a = no-tables fs vs (table_after table x no_table) (omega arith) in
+          let a = no-tables fs vs (table_after table x None) (omega arith) in
           rw (a.0, a.1, append-nil (flatten x.entries)) (one_table p q x (rw r at f))) v e
 
   pub table_filled_lem : (fs : List Field) (p room : ℕ) (vs : Args Located fs) (q : ℕ) → tables fs ≤ 1 → room ≡ room_of used tape → fields_at letters fs s p room ≡ given vs q
-      → Filled letters s (last_table fs vs no_table) used tape (tape_of fs vs)
+      → Filled letters s (last_table fs vs None) used tape (tape_of fs vs)
   unfolding fields_at last_table tape_of
   table_filled_lem [] p room vs q h r e = record { memory = sym (splice-nil (used * 6) tape); count = refl }
   table_filled_lem (fixed xs ∷ fs) p room vs q h r e =
@@ -155,45 +153,45 @@ module _ (letters : Letters) (s : List ℕ) (used : ℕ) (tape : List ℕ) where
 
 -- What the reader of fields leaves: the arguments located, the place of the table, and their words
 
-pub record Read (letters : Letters) (fs : List Field) (s : List ℕ) (p room : ℕ) (before after : List ℕ) (place : TablePlace) (next : ℕ) : Type 0 where
+pub record Read (letters : Letters) (fs : List Field) (s : List ℕ) (p room : ℕ) (before after : List ℕ) (place : Option TablePlace) (next : ℕ) : Type 0 where
   pub args : Args Located fs
   pub read : fields_at letters fs s p room ≡ given args next
-  pub table : last_table fs args no_table ≡ place
+  pub table : last_table fs args None ≡ place
   pub words : after ≡ splice 0 (args_words fs (pooled_args fs args)) before
 
-pub splice-head : (xs l : List ℕ) → splice 0 xs l ≡ xs ++ drop (length xs) l
-unfolding splice
-splice-head xs l = rw (zero-add (length xs))
-
 abbrev scanned : (fs : List Field) → Args Located fs → ℕ → Answer FieldsRead
-scanned fs vs q = given (record { words = args_words fs (pooled_args fs vs); table = last_table fs vs no_table }) q
+scanned fs vs q = given (record { words = args_words fs (pooled_args fs vs); table = last_table fs vs None }) q
 
 module _ (letters : Letters) (fs : List Field) (s : List ℕ) (p room : ℕ) (before after : List ℕ) where
-  pub scan-refused : (r : ReadFields) (e : WireError) → FieldsStored (scan_at letters fs s p room no_table) 0 before after r → r ≡ fields.Refused e
-      → fields_at letters fs s p room ≡ refused (refusal e)
+  pub scan-refused : (e : WireError) → FieldsStored (scan_at letters fs s p room None) 0 before after (Err e) → fields_at letters fs s p room ≡ refused (refusal e)
   unfolding scan_at
-  scan-refused r e h same = go (fields_at letters fs s p room) h
+  scan-refused e h = go (fields_at letters fs s p room) h
     where
-      go : (x : Answer (Args Located fs)) → FieldsStored (and_then x (scanned fs)) 0 before after r → x ≡ refused (refusal e)
-      go (given vs q) st = let a = sym st.0 ∙ ap answer_of_fields same in let z : ◌≡◌ {A = ℕ} 0 1 = cc in absurd (omega arith)
-      go (refused x) st = let a : refused x ≡ refused (refusal e) = sym st ∙ ap answer_of_fields same in let b : x ≡ refusal e = cc in ap refused b
+      go : (x : Answer (Args Located fs)) → FieldsStored (and_then x (scanned fs)) 0 before after (Err e) → x ≡ refused (refusal e)
+      go (given vs q) st = let a = st.0 in let z : ◌≡◌ {A = ℕ} 0 1 = cc in absurd (omega arith)
+      go (refused x) st = let b : x ≡ refusal e = cc in ap refused b
 
-  pub scan-read : (r : ReadFields) (place : TablePlace) (next : ℕ) → FieldsStored (scan_at letters fs s p room no_table) 0 before after r → r ≡ fields.Value place next
-      → Read letters fs s p room before after place next
+  pub scan-read : (place : Option TablePlace) (next : Cursor) → FieldsStored (scan_at letters fs s p room None) 0 before after (Ok (place, next))
+      → Read letters fs s p room before after place next.at
   unfolding scan_at
-  scan-read r place next h same = go (fields_at letters fs s p room) refl h
+  scan-read place next h = go (fields_at letters fs s p room) refl h
     where
-      go : (x : Answer (Args Located fs)) → fields_at letters fs s p room ≡ x → FieldsStored (and_then x (scanned fs)) 0 before after r
-          → Read letters fs s p room before after place next
+      go : (x : Answer (Args Located fs)) → fields_at letters fs s p room ≡ x → FieldsStored (and_then x (scanned fs)) 0 before after (Ok (place, next))
+          → Read letters fs s p room before after place next.at
       go (given vs q) e st =
-          let a = sym st.0 ∙ ap answer_of_fields same in
-          record { args = vs; read = e ∙ ap (given vs) (given-next (last_table fs vs no_table) place q next a); table = given-value (last_table fs vs no_table) place q next a; words = st.1 }
-      go (refused x) e st = let a = sym st ∙ ap answer_of_fields same in let z : ◌≡◌ {A = ℕ} 0 1 = cc in absurd (omega arith)
+          let a = sym st.0 in
+          record {
+            args = vs;
+            read = e ∙ ap (given vs) (given-next (last_table fs vs None) place q next.at a);
+            table = given-value (last_table fs vs None) place q next.at a;
+            words = st.1;
+          }
+      go (refused x) e st = let z : ◌≡◌ {A = ℕ} 0 1 = cc in absurd (omega arith)
 
 -- The tape is filled with their records
-pub read-filled : {A : Type 0} (letters : Letters) (fs : List Field) (s : List ℕ) (p used : ℕ) (tape memory before after : List ℕ) (place : TablePlace) (next : ℕ) (value : A) → tables fs ≤ 1
+pub read-filled : {A : Type 0} (letters : Letters) (fs : List Field) (s : List ℕ) (p used : ℕ) (tape memory before after : List ℕ) (place : Option TablePlace) (next : ℕ) (value : A) → tables fs ≤ 1
     → memory ≡ table_filled letters s place used tape → (r : Read letters fs s p (room_of used tape) before after place next)
-    → outcome (given (record { value = value; count = place.records }) next) memory ≡ fill_tape used tape (given (record { value = value; tape = tape_of fs r.args }) next)
+    → outcome (given (record { value = value; count = records_in place }) next) memory ≡ fill_tape used tape (given (record { value = value; tape = tape_of fs r.args }) next)
 read-filled letters fs s p used tape memory before after place next value h m r =
     let f : Filled letters s place used tape (tape_of fs r.args) = rw r.table at (table_filled_lem letters s used tape fs p (room_of used tape) r.args next h refl r.read) in
     rw (m, f.memory, f.count)

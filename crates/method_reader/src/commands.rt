@@ -1,63 +1,55 @@
 // The command reader: class and method, the fields of their layout, no octet more.
-ghost use Rattle.std.specs.Prelude.{◌≡◌, true, ◌≤◌, length};
-ghost use Rattle.std.proofs.Math.Option.{some};
+ghost use Rattle.std.specs.Prelude.{◌≡◌, true, map};
 ghost use Rattle.types.specs.Memory.{outcome};
 ghost use Rattle.tables.specs.Letters.{errata};
 ghost use Rattle.method.specs.Commands.{known, fields_of};
 ghost use Rattle.method.specs.Reading.{read_command};
-ghost use Rattle.method.specs.Layout.{layout_fields};
+ghost use Rattle.method.specs.Layout.{field_of};
 ghost use Rattle.method_words.specs.Words.{call_of};
 ghost use Rattle.method_words.specs.InWords.{words_outcome, in_words};
 ghost use Rattle.method_reader.specs.Fields.{read_arguments};
 ghost use Rattle.method_reader.specs.AnswerOf.{answer_of_call, answer_of_command};
 
-use crate::fields::{ReadFields, fill_table, read_fields};
-use crate::{ReadCall, ReadCommand};
-use method::layout::{Layout, layout_of};
-use method_words::KnownCommand;
+use crate::CallRead;
+use crate::fields::{fill_table, read_fields};
+use method::Command;
+use method::layout::{Field, layout_of};
+use method::present::command_fields;
 use method_words::commands::known_command;
 use table_reader::room;
-use types::{Cursor, ReadU16, WireError};
-
-// Every field is present.
-const ALL: u16 = 0x1FFF;
+use tables::WithCount;
+use types::{Cursor, Read, WireError};
 
 // What follows a class and method that are known, up to the end of the octets.
 fn read_arguments(
     class: u16,
     method: u16,
-    layout: Layout,
+    layout: &[Field],
     s: &[u8],
-    at: usize,
+    at: Cursor,
     tape: &mut [u64],
     used: usize,
     words: &mut [u64; 8],
-) -> ReadCall
-    requires { (at ≤ length s.now) × (known class method ≡ true) × (layout_fields layout ≡ some (fields_of class method)) × (layout.count ≤ 8) }
-    ensures { words_outcome (answer_of_call result words.new) words.new tape.new ≡ in_words call_of (λ x. x.words) words.old (read_arguments errata class method s.now at used tape.old) }
+) -> Read<CallRead>
+    requires { (known class method ≡ true) × (map field_of layout.now ≡ fields_of class method) }
+    ensures { words_outcome (answer_of_call result words.new) words.new tape.new ≡ in_words call_of (λ x. x.words) words.old (read_arguments errata class method s.now at.at used tape.old) }
 {
-    let fields = layout.fields;
-    let count = layout.count;
     let mut arguments = [0u64; 8];
-    match read_fields(
-        &fields[..count],
-        ALL,
-        s,
-        at,
-        room(tape, used),
-        &mut arguments,
-    ) {
-        ReadFields::Refused(e) => ReadCall::Refused(e),
-        ReadFields::Value(table, next) => {
-            if next < s.len() {
-                return ReadCall::Refused(WireError::NotWritten(next));
-            }
-            let records = table.records;
-            fill_table(s, table, tape, used);
-            *words = arguments;
-            ReadCall::Value(class, method, records, Cursor { at: next })
-        }
+    let fields = command_fields(layout);
+    let (table, next) = read_fields(fields, s, at, room(tape, used), &mut arguments)?;
+    if next.at < s.len() {
+        return Err(WireError::NotWritten(next.at));
     }
+    let records = fill_table(s, table, tape, used);
+    *words = arguments;
+    Ok((
+        CallRead {
+            class,
+            method,
+            records,
+        },
+        next,
+    ))
 }
 
 // Reads a command in words, which ends with the octets, and fills the records behind the used ones if it has a table.
@@ -67,39 +59,30 @@ pub fn read_call(
     tape: &mut [u64],
     used: usize,
     words: &mut [u64; 8],
-) -> ReadCall
+) -> Read<CallRead>
     ensures { words_outcome (answer_of_call result words.new) words.new tape.new ≡ in_words call_of (λ x. x.words) words.old (read_command errata s.now at.at used tape.old) }
 {
-    match at.u16(s) {
-        ReadU16::Refused(e) => ReadCall::Refused(e),
-        ReadU16::Value(class, after) => match after.u16(s) {
-            ReadU16::Refused(e) => ReadCall::Refused(e),
-            ReadU16::Value(method, next) => {
-                let layout = layout_of(class, method);
-                if !layout.known {
-                    return ReadCall::Refused(WireError::UnknownMethod(class, method));
-                }
-                read_arguments(class, method, layout, s, next.at, tape, used, words)
-            }
-        },
-    }
+    let (class, after) = at.u16(s)?;
+    let (method, next) = after.u16(s)?;
+    let Some(layout) = layout_of(class, method) else {
+        return Err(WireError::UnknownMethod(class, method));
+    };
+    read_arguments(class, method, layout, s, next, tape, used, words)
 }
 
 // Reads a command that ends with the octets, and fills the records behind the used ones if it has a table.
-pub fn read_command(s: &[u8], at: Cursor, tape: &mut [u64], used: usize) -> ReadCommand
+pub fn read_command(s: &[u8], at: Cursor, tape: &mut [u64], used: usize) -> Read<WithCount<Command>>
     ensures { outcome (answer_of_command result) tape.new ≡ read_command errata s.now at.at used tape.old }
 {
     let mut words = [0u64; 8];
-    match read_call(s, at, tape, used, &mut words) {
-        ReadCall::Refused(e) => ReadCommand::Refused(e),
-        ReadCall::Value(class, method, records, next) => {
-            match known_command(class, method, words) {
-                KnownCommand::Known(command) => ReadCommand::Value(command, records, next),
-                // read_call has refused it.
-                KnownCommand::Unknown => {
-                    ReadCommand::Refused(WireError::UnknownMethod(class, method))
-                }
-            }
-        }
-    }
+    let (call, next) = read_call(s, at, tape, used, &mut words)?;
+    // read_call refuses what is unknown.
+    let value = known_command(call.class, call.method, words).unwrap();
+    Ok((
+        WithCount {
+            value,
+            count: call.records,
+        },
+        next,
+    ))
 }

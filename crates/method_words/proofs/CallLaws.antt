@@ -1,6 +1,10 @@
 -- The words of a command are those of its class and method, which are known, and give it back.
 use mathlib.Core.Path.{◌≡◌, refl, sym, ap}
-use mathlib.Core.Bool.{true}
+use mathlib.Core.Bool.{Bool, true, false}
+use mathlib.Core.List.{[], ◌∷◌}
+use Prim.Native.Nat.{◌+◌, ◌*◌}
+use mir.Val.{bool_byte}
+use Rattle.method.specs.Kinds.Bits.{packed}
 use lib.ListN.{length, drop}
 use Rattle.method.specs.Fields.{Pooled}
 use Rattle.method.specs.Commands as table
@@ -55,3 +59,14 @@ words_back (call c m vs) f =
 pub call_back : (x : Command) (r : Call) → r ≡ call_of (command_of x)
     → (command_of x ≡ command_from r.class r.method r.words) × (known r.class r.method ≡ true)
 call_back x r e = rw e (words_back (command_of x) (command-known x))
+
+-- flags in a word
+pub one_flag : (p : Bool) → bool_byte p ≡ packed (true ∷ []) (p, tt)
+one_flag true = refl
+one_flag false = refl
+
+pub two_flags : (p q : Bool) → bool_byte p + 2 * bool_byte q ≡ packed (true ∷ true ∷ []) (p, (q, tt))
+two_flags true true = refl
+two_flags true false = refl
+two_flags false true = refl
+two_flags false false = refl

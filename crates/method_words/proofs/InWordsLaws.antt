@@ -6,7 +6,7 @@ use native.Mathlib.Omega.{arith}
 use Rattle.types.specs.Answer.{Refusal, Answer, given, refused}
 use Rattle.types.specs.Memory.{Outcome, outcome}
 use Rattle.types.proofs.Chain.{given-value, given-next}
-use Rattle.tables.specs.Tape.{WithCount}
+use Rattle.tables.specs.declared.WithCount.{WithCount}
 use Rattle.method_words.specs.InWords.{WordsOutcome, words_outcome, in_words}
 
 abbrev answer_in : {B : Type 0} → WordsOutcome B → Answer (WithCount B)

@@ -2,7 +2,7 @@
 use Rattle.std.specs.Prelude.{List, ℕ}
 use Rattle.types.specs.Answer.{Answer, given, refused}
 use Rattle.types.specs.Memory.{Outcome, outcome}
-use Rattle.tables.specs.Tape.{WithCount}
+use Rattle.tables.specs.declared.WithCount.{WithCount}
 
 pub data WordsOutcome (A : Type 0) : Type 0 where
   words_outcome : Answer (WithCount A) → List ℕ → List ℕ → WordsOutcome A

@@ -1,53 +1,46 @@
 -- The properties of a content header one by one: put behind those before it with its flag, or taken from the words that are left.
-use Rattle.std.specs.Prelude.{◌≡◌, cond, List, [], ℕ, ◌+◌, ◌-◌, ◌*◌, ◌^◌, ◌%◌, length, drop, get_or, leb}
-use Rattle.std.proofs.Math.Option.{Option, none, some}
+use Rattle.std.specs.Prelude.{◌≡◌, cond, Bool, List, [], ℕ, ◌+◌, ◌*◌, ◌%◌, length, drop, get_or, leb}
+use Rattle.std.specs.Prelude.{Option, None, Some}
 use Rattle.bits.specs.Flags.{bit}
 use Rattle.types.specs.Memory.{splice}
 use Rattle.types.specs.declared.Span.{Span}
-use Rattle.method.specs.Fields.{Kind, Args}
-use Rattle.method.specs.Properties.{properties, select, flags_number}
-use Rattle.method.specs.Words.{arg_words, args_words}
-use Rattle.method.specs.AnswerOf.{Optional, is_there, present, chosen}
+use Rattle.method.specs.Fields.{Kind}
+use Rattle.method.specs.Words.{arg_words}
+use Rattle.method.specs.AnswerOf.{Optional, is_there}
 use Rattle.method.specs.Kinds.ShortStr.{span_from}
-use Rattle.method_words.specs.declared.properties.Done.{Done}
-use Rattle.method_words.specs.declared.headers.Rest.{Rest}
+use Rattle.method_words.specs.declared.properties.PropertyWriter.{PropertyWriter}
+use Rattle.method_words.specs.declared.headers.PropertyReader.{PropertyReader}
 
 -- A property as words, none if it is absent
 abbrev pub optional_words : (k : Kind) → Optional k → Option (List ℕ)
-optional_words k none = none
-optional_words k (some v) = some (arg_words k v)
+optional_words k None = None
+optional_words k (Some v) = Some (arg_words k v)
 
 abbrev pub words_or : Option (List ℕ) → List ℕ
-words_or none = []
-words_or (some ws) = ws
+words_or None = []
+words_or (Some ws) = ws
 
-pub record Put (ws : Option (List ℕ)) (done : Done) (before after : List ℕ) (r : Done) : Type 0 where
-  pub flags : r.flags ≡ done.flags * 2 + bit (is_there ws)
-  pub next : r.j ≡ done.j + length (words_or ws)
-  pub memory : after ≡ splice done.j (words_or ws) before
+pub record Put (ws : Option (List ℕ)) (before after : PropertyWriter) (old new : List ℕ) : Type 0 where
+  pub flags : after.flags ≡ before.flags * 2 + bit (is_there ws)
+  pub next : after.at ≡ before.at + length (words_or ws)
+  pub memory : new ≡ splice before.at (words_or ws) old
 
--- all of them, from the first word on
-pub record PutAll (vs : Args Optional properties) (before after : List ℕ) (r : ℕ) : Type 0 where
-  pub flags : r ≡ flags_number (present properties vs)
-  pub memory : after ≡ splice 0 (args_words (select (present properties vs) properties) (chosen properties vs)) before
+-- A property that is taken: present if its flag is set, which is the highest of thirteen; its words are the next ones
 
--- A property that is taken: present if the flags reach its weight; its words are the next ones
-abbrev pub next_of : {A : Type 0} → (List ℕ → A) → List ℕ → Rest → ℕ → Option A
-next_of take words rest weight = cond (leb weight rest.flags) (some (take (drop rest.j words))) none
+abbrev pub is_next : PropertyReader → Bool
+is_next rest = leb 4096 rest.flags
 
-abbrev pub rest_of : Rest → ℕ → ℕ → Rest
-rest_of rest weight width = cond (leb weight rest.flags) (record { flags = rest.flags - weight; j = rest.j + width }) rest
+abbrev pub next_of : {A : Type 0} → (List ℕ → A) → PropertyReader → Option A
+next_of take rest = cond (is_next rest) (Some (take (drop rest.at rest.words.now))) None
 
--- a string, a table's records, an octet, a number of eight octets; numbers are cut to their width
+-- what is left behind one of so many words: its flag is gone, and the others are each one place higher
+abbrev pub rest_of : ℕ → PropertyReader → PropertyReader
+rest_of width rest = record { words = rest.words; flags = rest.flags % 4096 * 2; at = cond (is_next rest) (rest.at + width) rest.at }
+
+-- a string, and a number of any width
 
 abbrev pub span_in : List ℕ → Span
 span_in ws = span_from ws
 
-abbrev pub table_in : List ℕ → ℕ
-table_in ws = get_or ws 0 0
-
-abbrev pub octet_in : List ℕ → ℕ
-octet_in ws = get_or ws 0 0 % 256 ^ 1
-
-abbrev pub u64_in : List ℕ → ℕ
-u64_in ws = get_or ws 0 0 % 256 ^ 8
+abbrev pub number_in : List ℕ → ℕ
+number_in ws = get_or ws 0 0

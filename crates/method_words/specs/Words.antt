@@ -1,13 +1,11 @@
 -- A command and a content header as words, in wire order, and back. How an argument is words is said by specs/Words.antt of method.
 use Rattle.std.specs.Prelude.{cond, List, ◌++◌, ℕ, length, drop}
-use Rattle.std.proofs.Math.Option.{Option, none, some}
+use Rattle.std.specs.Prelude.{Option, None, Some}
 use Rattle.method.specs.Fields.{Kind, kind, Field, Pooled, Args, map_args}
 use Rattle.method.specs.Commands.{known, fields_of, Command, call}
 use Rattle.method.specs.Properties.{properties, select, flags_number, flags_of, Header, header}
 use Rattle.method.specs.Words.{args_words, args_from}
 use Rattle.method.specs.Layout.{zeros}
-use Rattle.method.specs.AnswerOf.{command_of}
-use Rattle.method.specs.declared.Command.TheVariants.{TxSelect}
 use Rattle.method_words.specs.declared.Call.{Call}
 use Rattle.method_words.specs.declared.HeaderWords.{HeaderWords}
 
@@ -32,11 +30,7 @@ cut_args fs vs = map_args cut_arg fs vs
 
 -- the command of a pair that is known
 unfoldable pub command_with : ℕ → ℕ → List ℕ → Option (Command Pooled)
-command_with c m ws = cond (known c m) (some (call c m (cut_args (fields_of c m) (args_from (fields_of c m) ws)))) none
-
-abbrev pub or_tx_select : Option (Command Pooled) → Command Pooled
-or_tx_select none = command_of TxSelect
-or_tx_select (some x) = x
+command_with c m ws = cond (known c m) (Some (call c m (cut_args (fields_of c m) (args_from (fields_of c m) ws)))) None
 
 -- flags has a bit for each of the thirteen properties, the first one highest
 abbrev pub header_with : ℕ → ℕ → ℕ → List ℕ → Header Pooled

@@ -1,130 +1,117 @@
 // From a pair and words to the command.
 ghost use Rattle.std.specs.Prelude.{◌≡◌, ◌+◌, ◌≤◌, get_or};
-ghost use Rattle.method.specs.AnswerOf.{command_of};
-ghost use Rattle.method_words.specs.Words.{command_with, or_tx_select};
+ghost use Rattle.method_words.specs.Words.{command_with};
 ghost use Rattle.method_words.specs.AnswerOf.{command_of_known};
 
-use crate::KnownCommand;
+use crate::cut::{low_bit, low_u16, low_u32};
 use method::Command;
-use method::layout::layout_of;
 use types::Span;
 
 fn span_at(words: [u64; 8], j: usize) -> Span
     requires { j + 2 ≤ 8 }
     ensures { result ≡ record { start = get_or words j 0; len = get_or words (j + 1) 0 } }
 {
-    Span {
-        start: words[j] as usize,
-        len: words[j + 1] as usize,
-    }
+    Span::from_words([words[j], words[j + 1]])
 }
 
-// A pair that is not known gives tx.select.
-fn command_of(class: u16, method: u16, words: [u64; 8]) -> Command
-    ensures { command_of result ≡ or_tx_select (command_with class method words) }
+// The command of a pair from the words of its arguments, in wire order (specs/Words.antt of method); none where no command has the
+// pair. Numbers are cut to their width. In parts, not as a Call: its callers have the words apart from the pair, and would put them
+// together for the match to take apart. Long, since it is one match with an arm for each of 25 commands.
+#[tactic(auto, unfolding(method::specs::Commands::commands, method::specs::Commands::known, crate::specs::Words::command_with))]
+pub fn known_command(class: u16, method: u16, words: [u64; 8]) -> Option<Command>
+    ensures { command_of_known result ≡ command_with class method words }
 {
     let text = span_at(words, 0);
     let after_number = span_at(words, 1);
     let second = span_at(words, 2);
     let third = span_at(words, 4);
-    match class as u64 * 100_000 + method as u64 {
-        10_00011 => Command::ConnectionStartOk {
+    match (class, method) {
+        (10, 11) => Some(Command::ConnectionStartOk {
             user: text,
             password: second,
-        },
-        10_00031 => Command::ConnectionTuneOk {
-            channel_max: (words[0] % 0x1_0000) as u16,
-            frame_max: (words[1] % 0x1_0000_0000) as u32,
-            heartbeat: (words[2] % 0x1_0000) as u16,
-        },
-        10_00040 => Command::ConnectionOpen { vhost: text },
-        20_00010 => Command::ChannelOpen,
-        20_00020 => Command::ChannelFlow {
-            active: words[0] % 2 == 1,
-        },
-        20_00021 => Command::ChannelFlowOk {
-            active: words[0] % 2 == 1,
-        },
-        20_00040 => Command::ChannelClose {
-            reply_code: (words[0] % 0x1_0000) as u16,
+        }),
+        (10, 31) => Some(Command::ConnectionTuneOk {
+            channel_max: low_u16(words[0]),
+            frame_max: low_u32(words[1]),
+            heartbeat: low_u16(words[2]),
+        }),
+        (10, 40) => Some(Command::ConnectionOpen { vhost: text }),
+        (20, 10) => Some(Command::ChannelOpen),
+        (20, 20) => Some(Command::ChannelFlow {
+            active: low_bit(words[0]),
+        }),
+        (20, 21) => Some(Command::ChannelFlowOk {
+            active: low_bit(words[0]),
+        }),
+        (20, 40) => Some(Command::ChannelClose {
+            reply_code: low_u16(words[0]),
             reply_text: after_number,
-        },
-        20_00041 => Command::ChannelCloseOk,
-        40_00010 => Command::ExchangeDeclare {
+        }),
+        (20, 41) => Some(Command::ChannelCloseOk),
+        (40, 10) => Some(Command::ExchangeDeclare {
             name: text,
             kind: second,
-            durable: words[4] % 2 == 1,
-        },
-        40_00020 => Command::ExchangeDelete {
+            durable: low_bit(words[4]),
+        }),
+        (40, 20) => Some(Command::ExchangeDelete {
             name: text,
-            if_unused: words[2] % 2 == 1,
-        },
-        50_00010 => Command::QueueDeclare {
+            if_unused: low_bit(words[2]),
+        }),
+        (50, 10) => Some(Command::QueueDeclare {
             queue: text,
-            durable: words[2] % 2 == 1,
-        },
-        50_00020 => Command::QueueBind {
-            queue: text,
-            exchange: second,
-            routing_key: third,
-        },
-        50_00050 => Command::QueueUnbind {
+            durable: low_bit(words[2]),
+        }),
+        (50, 20) => Some(Command::QueueBind {
             queue: text,
             exchange: second,
             routing_key: third,
-        },
-        50_00030 => Command::QueuePurge { queue: text },
-        50_00040 => Command::QueueDelete { queue: text },
-        60_00010 => Command::BasicQos {
-            prefetch_size: (words[0] % 0x1_0000_0000) as u32,
-            prefetch_count: (words[1] % 0x1_0000) as u16,
-            global: words[2] % 2 == 1,
-        },
-        60_00020 => Command::BasicConsume {
+        }),
+        (50, 50) => Some(Command::QueueUnbind {
+            queue: text,
+            exchange: second,
+            routing_key: third,
+        }),
+        (50, 30) => Some(Command::QueuePurge { queue: text }),
+        (50, 40) => Some(Command::QueueDelete { queue: text }),
+        (60, 10) => Some(Command::BasicQos {
+            prefetch_size: low_u32(words[0]),
+            prefetch_count: low_u16(words[1]),
+            global: low_bit(words[2]),
+        }),
+        (60, 20) => Some(Command::BasicConsume {
             queue: text,
             consumer_tag: second,
-            no_ack: words[4] % 2 == 1,
-        },
-        60_00030 => Command::BasicCancel {
+            no_ack: low_bit(words[4]),
+        }),
+        (60, 30) => Some(Command::BasicCancel {
             consumer_tag: text,
-            no_wait: words[2] % 2 == 1,
-        },
-        60_00040 => Command::BasicPublish {
+            no_wait: low_bit(words[2]),
+        }),
+        (60, 40) => Some(Command::BasicPublish {
             exchange: text,
             routing_key: second,
-        },
-        60_00070 => Command::BasicGet {
+        }),
+        (60, 70) => Some(Command::BasicGet {
             queue: text,
-            no_ack: words[2] % 2 == 1,
-        },
-        60_00080 => Command::BasicAck {
+            no_ack: low_bit(words[2]),
+        }),
+        (60, 80) => Some(Command::BasicAck {
             delivery_tag: words[0],
-            multiple: words[1] % 2 == 1,
-        },
-        60_00090 => Command::BasicReject {
+            multiple: low_bit(words[1]),
+        }),
+        (60, 90) => Some(Command::BasicReject {
             delivery_tag: words[0],
-            requeue: words[1] % 2 == 1,
-        },
-        60_00120 => Command::BasicNack {
+            requeue: low_bit(words[1]),
+        }),
+        (60, 120) => Some(Command::BasicNack {
             delivery_tag: words[0],
-            multiple: words[1] % 2 == 1,
-            requeue: words[1] / 2 % 2 == 1,
-        },
-        85_00010 => Command::ConfirmSelect {
-            no_wait: words[0] % 2 == 1,
-        },
-        90_00010 => Command::TxSelect,
-        // No other pair is known.
-        _ => Command::TxSelect,
+            multiple: low_bit(words[1]),
+            requeue: low_bit(words[1] / 2),
+        }),
+        (85, 10) => Some(Command::ConfirmSelect {
+            no_wait: low_bit(words[0]),
+        }),
+        (90, 10) => Some(Command::TxSelect),
+        _ => None,
     }
-}
-
-// The command of a pair from the words of its arguments, in wire order (specs/Words.antt of method). Numbers are cut to their width.
-pub fn known_command(class: u16, method: u16, arguments: [u64; 8]) -> KnownCommand
-    ensures { command_of_known result ≡ command_with class method arguments }
-{
-    if !layout_of(class, method).known {
-        return KnownCommand::Unknown;
-    }
-    KnownCommand::Known(command_of(class, method, arguments))
 }

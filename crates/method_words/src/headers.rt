@@ -1,118 +1,94 @@
 // From words to a content header: each property is taken if its flag is set, and then its words.
-ghost use Rattle.std.specs.Prelude.{◌≡◌, ◌+◌, ◌%◌, ◌≤◌};
-ghost use Rattle.method.specs.AnswerOf.{header_of, optional_span, optional_u8, optional_u64, optional_table};
+ghost use Rattle.std.specs.Prelude.{◌≡◌, ◌%◌};
+ghost use Rattle.method.specs.AnswerOf.{header_of};
 ghost use Rattle.method_words.specs.Words.{header_with};
-ghost use Rattle.method_words.specs.Properties.{next_of, rest_of, span_in, table_in, octet_in, u64_in};
 
-use method::{ContentHeader, ContentProperties, OptSpan, OptTable, OptU8, OptU64};
+use crate::cut::low_u8;
+use method::present::FIRST_FLAG;
+use method::{ContentHeader, ContentProperties};
 use types::Span;
 
-// The flags of the properties that follow, and the first of their words.
-#[derive(Clone, Copy)]
-struct Rest {
+// The properties that are left: the flags of them, the first one highest, and where their words begin.
+#[derive(Drop)]
+struct PropertyReader<'a> {
+    words: &'a [u64; 22],
     flags: u16,
-    j: usize,
+    at: usize,
 }
 
-// What is left behind a property of so many words, which is present if the flags reach its weight.
-fn rest_of(rest: Rest, weight: u16, width: usize) -> Rest
-    requires { rest.j + width ≤ 22 }
-    ensures { result ≡ rest_of rest weight width }
-{
-    if weight <= rest.flags {
-        return Rest {
-            flags: rest.flags - weight,
-            j: rest.j + width,
-        };
-    }
-    rest
-}
+impl<'a> PropertyReader<'a> {
+    ghost use Rattle.std.specs.Prelude.{◌≡◌, ◌+◌, ◌*◌, ◌%◌, ◌^◌, ◌≤◌, ◌<◌, IfSome};
+    ghost use Rattle.method_words.specs.Properties.{is_next, next_of, rest_of, span_in, number_in};
 
-fn next_span(words: [u64; 22], rest: Rest, weight: u16) -> OptSpan
-    requires { rest.j + 2 ≤ 22 }
-    ensures { optional_span result ≡ next_of span_in words rest weight }
-{
-    if weight <= rest.flags {
-        let j = rest.j;
-        return OptSpan::Some(Span {
-            start: words[j] as usize,
-            len: words[j + 1] as usize,
-        });
+    // Whether the next property is present. The flags behind it move up to its place.
+    fn next_flag(&mut self) -> bool
+        ensures flag { result ≡ is_next self.old }
+        ensures rest { self.new ≡ record { words = self.old.words; flags = self.old.flags % 4096 * 2; at = self.old.at } }
+    {
+        let present = FIRST_FLAG <= self.flags;
+        self.flags = self.flags % FIRST_FLAG * 2;
+        present
     }
-    OptSpan::None
-}
 
-fn next_table(words: [u64; 22], rest: Rest, weight: u16) -> OptTable
-    requires { rest.j + 1 ≤ 22 }
-    ensures { optional_table result ≡ next_of table_in words rest weight }
-{
-    if weight <= rest.flags {
-        let j = rest.j;
-        return OptTable::Some(words[j] as usize);
+    fn next_span(&mut self) -> Option<Span>
+        requires { self.old.at + 2 ≤ 22 }
+        ensures taken { result ≡ next_of span_in self.old }
+        ensures rest { self.new ≡ rest_of 2 self.old }
+        ensures place { self.new.at ≤ self.old.at + 2 }
+    {
+        if !self.next_flag() {
+            return None;
+        }
+        let at = self.at;
+        self.at = at + 2;
+        Some(Span::from_words([self.words[at], self.words[at + 1]]))
     }
-    OptTable::None
-}
 
-fn next_u8(words: [u64; 22], rest: Rest, weight: u16) -> OptU8
-    requires { rest.j + 1 ≤ 22 }
-    ensures { optional_u8 result ≡ next_of octet_in words rest weight }
-{
-    if weight <= rest.flags {
-        let j = rest.j;
-        return OptU8::Some((words[j] % 0x100) as u8);
+    fn next_number(&mut self) -> Option<u64>
+        requires { self.old.at + 1 ≤ 22 }
+        ensures taken { result ≡ next_of number_in self.old }
+        ensures fits { IfSome result (λ n. n < 256 ^ 8) }
+        ensures rest { self.new ≡ rest_of 1 self.old }
+        ensures place { self.new.at ≤ self.old.at + 1 }
+    {
+        if !self.next_flag() {
+            return None;
+        }
+        let at = self.at;
+        self.at = at + 1;
+        let word = self.words[at];
+        Some(word)
     }
-    OptU8::None
-}
-
-fn next_u64(words: [u64; 22], rest: Rest, weight: u16) -> OptU64
-    requires { rest.j + 1 ≤ 22 }
-    ensures { optional_u64 result ≡ next_of u64_in words rest weight }
-{
-    if weight <= rest.flags {
-        let j = rest.j;
-        return OptU64::Some(words[j]);
-    }
-    OptU64::None
 }
 
 // A header from the words of its properties; a bit of `present` for each of the thirteen, the first one highest, and no bit above
-// them counts. Numbers are cut to their width.
+// them counts. Numbers are cut to their width. In parts, not as HeaderWords: its callers have the words apart from the numbers, and would
+// put them together for this to take apart.
 pub fn header_of(class: u16, body_size: u64, present: u16, words: [u64; 22]) -> ContentHeader
     ensures { header_of result ≡ header_with class body_size (present % 8192) words }
 {
-    let a = Rest {
-        flags: present % 0x2000,
-        j: 0,
+    let mut rest = PropertyReader {
+        words: &words,
+        flags: present % (2 * FIRST_FLAG),
+        at: 0,
     };
-    let b = rest_of(a, 0x1000, 2);
-    let c = rest_of(b, 0x0800, 2);
-    let d = rest_of(c, 0x0400, 1);
-    let e = rest_of(d, 0x0200, 1);
-    let f = rest_of(e, 0x0100, 1);
-    let g = rest_of(f, 0x0080, 2);
-    let h = rest_of(g, 0x0040, 2);
-    let i = rest_of(h, 0x0020, 2);
-    let j = rest_of(i, 0x0010, 2);
-    let k = rest_of(j, 0x0008, 1);
-    let l = rest_of(k, 0x0004, 2);
-    let m = rest_of(l, 0x0002, 2);
     ContentHeader {
         class,
         body_size,
         properties: ContentProperties {
-            content_type: next_span(words, a, 0x1000),
-            content_encoding: next_span(words, b, 0x0800),
-            headers: next_table(words, c, 0x0400),
-            delivery_mode: next_u8(words, d, 0x0200),
-            priority: next_u8(words, e, 0x0100),
-            correlation_id: next_span(words, f, 0x0080),
-            reply_to: next_span(words, g, 0x0040),
-            expiration: next_span(words, h, 0x0020),
-            message_id: next_span(words, i, 0x0010),
-            timestamp: next_u64(words, j, 0x0008),
-            type_: next_span(words, k, 0x0004),
-            user_id: next_span(words, l, 0x0002),
-            app_id: next_span(words, m, 0x0001),
+            content_type: rest.next_span(),
+            content_encoding: rest.next_span(),
+            headers: rest.next_number().map(|records| records as usize),
+            delivery_mode: rest.next_number().map(low_u8),
+            priority: rest.next_number().map(low_u8),
+            correlation_id: rest.next_span(),
+            reply_to: rest.next_span(),
+            expiration: rest.next_span(),
+            message_id: rest.next_span(),
+            timestamp: rest.next_number(),
+            type_: rest.next_span(),
+            user_id: rest.next_span(),
+            app_id: rest.next_span(),
         },
     }
 }

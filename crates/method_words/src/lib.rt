@@ -4,28 +4,20 @@
 
 pub mod calls;
 pub mod commands;
+pub mod cut;
 pub mod headers;
 pub mod properties;
 
-use method::Command;
-
 // A command by its pair, and its arguments as words.
-#[derive(Clone, Copy)]
+#[derive(Clone, Copy, Debug, PartialEq, Eq)]
 pub struct Call {
     pub class: u16,
     pub method: u16,
     pub words: [u64; 8],
 }
 
-// Unknown where no command has the class and method.
-#[derive(Clone, Copy)]
-pub enum KnownCommand {
-    Known(Command),
-    Unknown,
-}
-
 // A content header, a bit of `present` for each of the thirteen properties, the first one highest, and those as words.
-#[derive(Clone, Copy)]
+#[derive(Clone, Copy, Debug, PartialEq, Eq)]
 pub struct HeaderWords {
     pub class: u16,
     pub body_size: u64,

@@ -1,62 +1,55 @@
 -- What the second pass leaves in its output: a field by its kind, and then fields, one behind another.
 use mathlib.Core.Path.{◌≡◌, refl, sym, ap, ◌∙◌}
-use mathlib.Core.Bool.{Bool, true, false}
-use mathlib.Core.List.{List, [], ◌∷◌, ◌++◌, map}
-use mathlib.Core.Option.{Option, none, some}
-use Prim.Native.Nat.{ℕ, zero, suc, ◌+◌, ◌-◌, ◌*◌, ◌/◌, ◌%◌, ◌^◌, ◌≤◌, ◌<◌}
-use native.Mathlib.Nat.{add-zero, mul_assoc, pow-suc, div-add-mod'}
+use mathlib.Core.List.{List, [], ◌∷◌, ◌++◌}
+use Rattle.std.specs.Prelude.{Option, None, Some, Result, Ok}
+use Rattle.std.specs.Result.{IsOk}
+use Prim.Native.Nat.{ℕ, ◌+◌, ◌-◌, ◌*◌, ◌/◌, ◌%◌, ◌≤◌}
 use native.Mathlib.Omega.{arith}
-use lib.ListN.{length, take, drop, get_or, length-append}
-use lib.Seq.{drop-drop, get_or-drop}
+use lib.ListN.{length, take, drop, get_or, length-append, length-drop}
 use lib.Dec.{leb, eqb}
 use borrow.Author.Tests.{eqb-true, eqb-false}
-use types.Run.{OneOf}
 use Rattle.bits.specs.Flags.{bit}
 use Rattle.utf8.specs.Utf8.{utf8}
-use Rattle.types.specs.Answer.{Refusal, Answer}
-use Rattle.types.specs.Lookup.{row}
+use Rattle.types.specs.Answer.{Refusal}
+use Rattle.types.specs.declared.WireError.{WireError}
 use Rattle.types.specs.Octets as number
+use Rattle.types.specs.Strings as text
+use Rattle.types.specs.declared.Span.{Span}
 use Rattle.types.specs.Memory.{splice, outcome}
 use Rattle.types.proofs.Tests.{yes_leb, decide}
 use Rattle.types.proofs.Chain.{test-none}
 use Rattle.types.proofs.Splice.{splice-nil, splice-after}
 use Rattle.types.proofs.NumberLaws.{length-octets}
-use Rattle.types.proofs.Arms.{arm, Rest, rest}
-use Rattle.writers.specs.Writers.{write_uint, write_octets}
+use Rattle.writers.specs.AnswerOf.{answer_of_written}
+use Rattle.writers.specs.Writers.{write_at, write_uint, write_octets}
 use Rattle.tables.specs.Letters.{Letters, errata}
 use Rattle.tables.specs.Writing.{judge_table, write_table}
-use Rattle.method.specs.Fields.{number, short_str, bits, login, table, Field, fixed, arg}
-use Rattle.method.specs.Properties.{select, flags_of}
+use Rattle.method.specs.Fields.{number, short_str, login, table, Field, fixed, arg}
 use Rattle.method.specs.Writing.{arg_octets, field_octets, judge_arg_length}
 use Rattle.method.specs.Pooled.{pooled_meanings, judge_arg}
 use Rattle.method.specs.Words.{width, widths, arg_from, args_from}
-use Rattle.method.specs.Layout.{field_of, number_width, places, fixed_octets}
+use Rattle.method.specs.Layout.{field_of, places}
+use Rattle.method.specs.declared.layout.Bits.{Bits}
+use Rattle.method.specs.declared.layout.Bits.TheVariants.{Lowest, Second, Both}
+use Rattle.method.specs.declared.layout.Field.{Field as CodeField}
 use Rattle.method.specs.Kinds.Bits.{octet_of, flags_from}
-use Rattle.table_writer.specs.Emitting.{next_or, Emitted}
-use Rattle.table_writer.proofs.EmitLaws.{emitted, number-emitted, emitted-length, emitted-after, length-span}
-use Rattle.method_writer.specs.Sizes.{Size, octets, long, refused, sized, arg_meaning, field_size, fields_size, octets_of, octets_of_all}
+use Rattle.method.specs.Kinds.ShortStr.{span_from}
+use Rattle.table_writer.specs.Emitting.{Emitted}
+use Rattle.table_writer.proofs.EmitLaws.{is_written, emitted, emitted-length, emitted-after, length-span}
+use Rattle.method_writer.specs.Sizes.{Size, octets, long, refused, both, sized, arg_meaning, field_size, fields_size, octets_of, octets_of_all}
 use Rattle.method_writer.specs.Emitting.{Ready}
-use Rattle.method.proofs.FieldCodes.{code-arm, arg_arms, code-rest, Left, Present, none_left, present-left, absent-left}
-use Rattle.method_writer.proofs.SizeLaws.{both, fields-size}
+use Rattle.method_writer.proofs.SizeLaws.{fields-size, words-behind}
 
--- Numbers
+-- A number that is written where it has space
 
-octets-past : (k q r : ℕ) → number.octets k (q * 256 ^ k + r) ≡ number.octets k r
-octets-past zero q r = refl
-octets-past (suc k) q r =
-    let p : q * 256 ^ suc k ≡ q * 256 ^ k * 256 = ap (λ (m : ℕ). q * m) (pow-suc 256 k) ∙ sym (mul_assoc q (256 ^ k) 256) in
-    let d : (q * 256 ^ suc k + r) / 256 ≡ q * 256 ^ k + r / 256 = omega (arith, p) in
-    let m : (q * 256 ^ suc k + r) % 256 ≡ r % 256 = omega (arith, p) in
-    rw (d, m, octets-past k q (r / 256))
+module _ (k n : ℕ) (w : Result ℕ WireError) (at : ℕ) (out : List ℕ) {after : List ℕ} (h : at + k ≤ length out) (e : outcome (answer_of_written w) after ≡ write_uint k n at out) where
+  pub number-ok : IsOk w
+  unfolding write_uint
+  number-ok = is_written w (number.octets k n) at out (omega (arith, length-octets k n)) e
 
--- the octets of a number are those of what is left of it in as many
-pub octets-cut : (k n : ℕ) → number.octets k (n % 256 ^ k) ≡ number.octets k n
-octets-cut k n = sym (octets-past k (n / 256 ^ k) (n % 256 ^ k)) ∙ ap (number.octets k) (div-add-mod' n (256 ^ k))
-
--- a number by the digit that says its width
-pub width-emitted : (digit k n m : ℕ) {at : ℕ} {out after : List ℕ} {w : Answer Unit} {r : ℕ} → number_width digit ≡ k → number.octets k m ≡ number.octets k n → at + number_width digit ≤ length out
-    → outcome w after ≡ write_uint k m at out → r ≡ next_or at w → Emitted (number.octets (number_width digit) n) at out after r
-width-emitted digit k n m e c h o q = rw (e, ← c) (number-emitted k m (omega (arith, e)) o q)
+  pub number-written : {r : ℕ} → w ≡ Ok r → Emitted (number.octets k n) at out after r
+  unfolding write_uint
+  number-written q = emitted w (omega (arith, length-octets k n)) e q
 
 -- Flags
 
@@ -65,125 +58,133 @@ bit-odd n =
     decide (eqb (n % 2) 1) (λ y. ap bit y ∙ sym (eqb-true (n % 2) 1 y))
     (λ f. let e : 0 ≡ n % 2 = omega (arith, eqb-false (n % 2) 1 f) in ap bit f ∙ e)
 
--- the octet of flags, by the digit that says their places
-abbrev pub flags_octet : ℕ → ℕ → ℕ
-flags_octet digit n = octet_of (places digit) (flags_from (places digit) n)
+-- the octet of flags in their places
+abbrev pub flags_octet : Bits → ℕ → ℕ
+flags_octet b n = octet_of (places b) (flags_from (places b) n)
 
-flags_in : (ps : List Bool) (digit n : ℕ) → places digit ≡ ps → flags_octet digit n ≡ octet_of ps (flags_from ps n)
-flags_in ps digit n e = ap (λ (qs : List Bool). octet_of qs (flags_from qs n)) e
-
-pub flags-first : (digit n : ℕ) → OneOf (1 ∷ []) digit → flags_octet digit n ≡ n % 2
+pub flags-lowest : (n : ℕ) → flags_octet Lowest n ≡ n % 2
 unfolding octet_of
-flags-first digit n o = flags_in (true ∷ []) digit n (arm places (true ∷ []) (1 ∷ []) digit (refl, tt) o) ∙ omega (arith, bit-odd n)
+flags-lowest n = omega (arith, bit-odd n)
 
-pub flags-second : (digit n : ℕ) → OneOf (2 ∷ []) digit → flags_octet digit n ≡ n % 2 * 2
+pub flags-second : (n : ℕ) → flags_octet Second n ≡ n % 2 * 2
 unfolding octet_of
-flags-second digit n o = flags_in (false ∷ true ∷ []) digit n (arm places (false ∷ true ∷ []) (2 ∷ []) digit (refl, tt) o) ∙ omega (arith, bit-odd n)
+flags-second n = omega (arith, bit-odd n)
 
-pub flags-both : (digit n : ℕ) → Rest ((2 ∷ []) ∷ (1 ∷ []) ∷ []) digit → flags_octet digit n ≡ n % 4
+pub flags-both : (n : ℕ) → flags_octet Both n ≡ n % 4
 unfolding octet_of
-flags-both digit n r =
-    flags_in (true ∷ true ∷ []) digit n (rest (true ∷ true ∷ []) ((2 ∷ []) ∷ (1 ∷ []) ∷ []) digit (row 1 (true ∷ []) ∷ row 2 (false ∷ true ∷ []) ∷ []) r tt)
-    ∙ omega (arith, bit-odd n, bit-odd (n / 2))
+flags-both n = omega (arith, bit-odd n, bit-odd (n / 2))
 
 -- Arguments that were judged and have space
 
-ready-sized : (a b : Option Refusal) (n at : ℕ) (out : List ℕ) → Ready (sized a b n) at out → (a ≡ none) × (b ≡ none) × (at + n ≤ length out)
-ready-sized none none n at out h = (refl, refl, h)
-ready-sized none (some r) n at out h = absurd h
-ready-sized (some r) b n at out h = absurd h
+ready-sized : (a b : Option Refusal) (n at : ℕ) (out : List ℕ) → Ready (sized a b n) at out → (a ≡ None) × (b ≡ None) × (at + n ≤ length out)
+ready-sized None None n at out h = (refl, refl, h)
+ready-sized None (Some r) n at out h = absurd h
+ready-sized (Some r) b n at out h = absurd h
 
 -- Strings, by their words
 
-first_word : (ws : List ℕ) (j : ℕ) → get_or (drop j ws) 0 0 ≡ get_or ws j 0
-first_word ws j = get_or-drop j ws 0 0 ∙ ap (λ (i : ℕ). get_or ws i 0) (add-zero j)
+-- the octets of a span, as a slice has them
+module _ (pool : List ℕ) (v : Span) (inside : v.start + v.len ≤ length pool) (w : Result ℕ WireError) (at : ℕ) (out : List ℕ) {after : List ℕ} (h : at + v.len ≤ length out)
+    (e : outcome (answer_of_written w) after ≡ write_octets (take (v.start + v.len - v.start) (drop v.start pool)) at out) where
+  text-space : at + length (text.octets_of pool v) ≤ length out
+  text-space = omega (arith, length-span pool v.start v.len inside)
 
-later-word : (ws : List ℕ) (j k i : ℕ) → get_or (drop k (drop j ws)) i 0 ≡ get_or ws (j + (k + i)) 0
-later-word ws j k i = get_or-drop k (drop j ws) i 0 ∙ get_or-drop j ws (k + i) 0
+  text-put : outcome (answer_of_written w) after ≡ write_octets (text.octets_of pool v) at out
+  text-put = let k : v.start + v.len - v.start ≡ v.len = omega arith in rw k at e
 
-module _ (letters : Letters) (pool tape : List ℕ) (ws : List ℕ) (j at : ℕ) (out : List ℕ) where
+  pub text-ok : IsOk w
+  unfolding write_octets
+  text-ok = is_written w _ at out text-space text-put
+
+  pub text-written : {r : ℕ} → w ≡ Ok r → Emitted (text.octets_of pool v) at out after r
+  unfolding write_octets
+  text-written q = emitted w text-space text-put q
+
+module _ (letters : Letters) (pool tape ws : List ℕ) (at : ℕ) (out : List ℕ) where
   -- a short string
-  pub record ShortFits : Type 0 where
-    pub inside : get_or ws j 0 + get_or ws (j + 1) 0 ≤ length pool
-    pub space : at + 1 + get_or ws (j + 1) 0 ≤ length out
-    pub whole : octets_of letters pool tape (arg short_str) (drop j ws) ≡ number.octets 1 (get_or ws (j + 1) 0 % 256) ++ take (get_or ws (j + 1) 0) (drop (get_or ws j 0) pool)
+  pub record ShortFits (v : Span) : Type 0 where
+    pub inside : v.start + v.len ≤ length pool
+    pub short : v.len ≤ 255
+    pub space : at + 1 + v.len ≤ length out
+    pub whole : octets_of letters pool tape (arg short_str) ws ≡ number.octets 1 v.len ++ text.octets_of pool v
 
-  pub short-fits : Ready (field_size letters pool tape (arg short_str) (drop j ws)) at out → ShortFits
+  short-ready-fits : Ready (field_size letters pool tape (arg short_str) ws) at out → ShortFits (span_from ws)
   unfolding field_size octets_of
-  short-fits h =
-      let start = get_or ws j 0 in
-      let len = get_or ws (j + 1) 0 in
+  short-ready-fits h =
+      let start = get_or ws 0 0 in
+      let len = get_or ws 1 0 in
       let xs = take len (drop start pool) in
-      let r = ready-sized _ _ _ at out (rw (first_word ws j, get_or-drop j ws 1 0) at h) in
-      let inside : start + len ≤ length pool = yes_leb (start + len) (length pool) (test-none (leb (start + len) (length pool)) _ _ r.0).0 in
+      let r = ready-sized _ _ _ at out h in
+      let t = test-none (leb (start + len) (length pool)) _ _ r.0 in
+      let inside : start + len ≤ length pool = yes_leb (start + len) (length pool) t.0 in
       let l : length xs ≡ len = length-span pool start len inside in
       record {
         inside = inside;
+        short = omega (arith, l, yes_leb (length xs) 255 (test-none (leb (length xs) 255) _ _ t.1).0);
         space = omega (arith, r.2, l);
-        whole = rw (first_word ws j, get_or-drop j ws 1 0, l) (ap (λ (ys : List ℕ). ys ++ xs) (sym (octets-cut 1 len)));
+        whole = rw l;
       }
+
+  pub short-fits : {v : Span} → v ≡ span_from ws → Ready (field_size letters pool tape (arg short_str) ws) at out → ShortFits v
+  short-fits {v} e h = rw e (short-ready-fits h)
 
   -- a login string
-  pub record LoginFits : Type 0 where
-    pub user : get_or ws j 0 + get_or ws (j + 1) 0 ≤ length pool
-    pub password : get_or ws (j + 2) 0 + get_or ws (j + 3) 0 ≤ length pool
-    pub short : get_or ws (j + 1) 0 + get_or ws (j + 3) 0 + 2 ≤ 4294967295
-    pub space : at + 4 + (get_or ws (j + 1) 0 + get_or ws (j + 3) 0 + 2) ≤ length out
-    pub whole : octets_of letters pool tape (arg login) (drop j ws)
-        ≡ number.octets 4 ((get_or ws (j + 1) 0 + get_or ws (j + 3) 0 + 2) % 4294967296)
-        ++ ((number.octets 1 0 ++ take (get_or ws (j + 1) 0) (drop (get_or ws j 0) pool)) ++ (number.octets 1 0 ++ take (get_or ws (j + 3) 0) (drop (get_or ws (j + 2) 0) pool)))
+  pub record LoginFits (user password : Span) : Type 0 where
+    pub user_inside : user.start + user.len ≤ length pool
+    pub password_inside : password.start + password.len ≤ length pool
+    pub short : user.len + password.len + 2 ≤ 4294967295
+    pub space : at + 4 + (user.len + password.len + 2) ≤ length out
+    pub whole : octets_of letters pool tape (arg login) ws
+        ≡ number.octets 4 (user.len + password.len + 2) ++ ((number.octets 1 0 ++ text.octets_of pool user) ++ (number.octets 1 0 ++ text.octets_of pool password))
 
-  pub login-fits : Ready (field_size letters pool tape (arg login) (drop j ws)) at out → LoginFits
+  login-ready-fits : Ready (field_size letters pool tape (arg login) ws) at out → LoginFits (span_from ws) (span_from (drop 2 ws))
   unfolding field_size octets_of
-  login-fits h =
-      let w = get_or ws j 0 in
-      let x = get_or ws (j + 1) 0 in
-      let y = get_or ws (j + 2) 0 in
-      let z = get_or ws (j + 3) 0 in
+  login-ready-fits h =
+      let w = get_or ws 0 0 in
+      let x = get_or ws 1 0 in
+      let y = get_or (drop 2 ws) 0 0 in
+      let z = get_or (drop 2 ws) 1 0 in
       let us = take x (drop w pool) in
       let ps = take z (drop y pool) in
-      let e : get_or (drop 2 (drop j ws)) 0 0 ≡ y = later-word ws j 2 0 in
-      let f : get_or (drop 2 (drop j ws)) 1 0 ≡ z = later-word ws j 2 1 in
-      let r = ready-sized _ _ _ at out (rw (first_word ws j, get_or-drop j ws 1 0, e, f) at h) in
+      let r = ready-sized _ _ _ at out h in
       let a = test-none (leb (w + x) (length pool)) _ _ r.0 in
-      let user : w + x ≤ length pool = yes_leb (w + x) (length pool) a.0 in
+      let user_inside : w + x ≤ length pool = yes_leb (w + x) (length pool) a.0 in
       let b = test-none (leb (y + z) (length pool)) _ _ (test-none (utf8 us) _ _ a.1).1 in
-      let password : y + z ≤ length pool = yes_leb (y + z) (length pool) b.0 in
-      let k : length us ≡ x = length-span pool w x user in
-      let l : length ps ≡ z = length-span pool y z password in
+      let password_inside : y + z ≤ length pool = yes_leb (y + z) (length pool) b.0 in
+      let k : length us ≡ x = length-span pool w x user_inside in
+      let l : length ps ≡ z = length-span pool y z password_inside in
       let m : length (0 ∷ (us ++ (0 ∷ ps))) ≡ x + z + 2 = omega (arith, length-append us (0 ∷ ps), k, l) in
       record {
-        user = user;
-        password = password;
+        user_inside = user_inside;
+        password_inside = password_inside;
         short = omega (arith, m, yes_leb (length (0 ∷ (us ++ (0 ∷ ps)))) 4294967295 (test-none (leb (length (0 ∷ (us ++ (0 ∷ ps)))) 4294967295) _ _ r.1).0);
         space = omega (arith, r.2, m, length-append (number.octets 4 (length (0 ∷ (us ++ (0 ∷ ps))))) (0 ∷ (us ++ (0 ∷ ps))));
-        whole = rw (first_word ws j, get_or-drop j ws 1 0, e, f, m) (ap (λ (qs : List ℕ). qs ++ (0 ∷ (us ++ (0 ∷ ps)))) (sym (octets-cut 4 (x + z + 2))));
+        whole = rw m;
       }
 
-module _ {letters : Letters} {pool tape : List ℕ} {ws : List ℕ} {j at : ℕ} {out : List ℕ} (f : LoginFits letters pool tape ws j at out) {mid : List ℕ} {text : ℕ}
-    (p : Emitted (number.octets 4 ((get_or ws (j + 1) 0 + get_or ws (j + 3) 0 + 2) % 4294967296)) at out mid text) where
-  pub user-space : text + 1 + get_or ws (j + 1) 0 ≤ length mid
+  pub login-fits : {user password : Span} → user ≡ span_from ws → password ≡ span_from (drop 2 ws) → Ready (field_size letters pool tape (arg login) ws) at out → LoginFits user password
+  login-fits {user} {password} e f h = rw (e, f) (login-ready-fits h)
+
+module _ {letters : Letters} {pool tape ws : List ℕ} {at : ℕ} {out : List ℕ} {user password : Span} (f : LoginFits letters pool tape ws at out user password) {mid : List ℕ} {behind : ℕ}
+    (p : Emitted (number.octets 4 (user.len + password.len + 2)) at out mid behind) where
+  pub user-space : behind + 1 + user.len ≤ length mid
   user-space = omega (arith, f.space, p.next, emitted-length (omega (arith, f.space)) p)
 
-  module _ {low : List ℕ} {next : ℕ} (q : Emitted (number.octets 1 0 ++ take (get_or ws (j + 1) 0) (drop (get_or ws j 0) pool)) text mid low next) where
-    both-spaces : (text + length (number.octets 1 0 ++ take (get_or ws (j + 1) 0) (drop (get_or ws j 0) pool)) ≤ length mid) × (next + 1 + get_or ws (j + 3) 0 ≤ length low)
+  module _ {low : List ℕ} {next : ℕ} (q : Emitted (number.octets 1 0 ++ text.octets_of pool user) behind mid low next) where
+    both-spaces : (behind + length (number.octets 1 0 ++ text.octets_of pool user) ≤ length mid) × (next + 1 + password.len ≤ length low)
     both-spaces =
-        let l = length-span pool (get_or ws j 0) (get_or ws (j + 1) 0) f.user in
-        let h : text + length (number.octets 1 0 ++ take (get_or ws (j + 1) 0) (drop (get_or ws j 0) pool)) ≤ length mid = omega (arith, user-space, l) in
+        let l = length-span pool user.start user.len f.user_inside in
+        let h : behind + length (number.octets 1 0 ++ text.octets_of pool user) ≤ length mid = omega (arith, user-space, l) in
         (h, omega (arith, l, f.space, q.next, emitted-length h q, p.next, emitted-length (omega (arith, f.space)) p))
 
-    pub password-space : next + 1 + get_or ws (j + 3) 0 ≤ length low
+    pub password-space : next + 1 + password.len ≤ length low
     password-space = both-spaces.1
 
-    pub login-emitted : {after : List ℕ} {r : ℕ} → Emitted (number.octets 1 0 ++ take (get_or ws (j + 3) 0) (drop (get_or ws (j + 2) 0) pool)) next low after r
-        → Emitted (octets_of letters pool tape (arg login) (drop j ws)) at out after r
+    pub login-emitted : {after : List ℕ} {r : ℕ} → Emitted (number.octets 1 0 ++ text.octets_of pool password) next low after r
+        → Emitted (octets_of letters pool tape (arg login) ws) at out after r
     login-emitted d = rw f.whole (emitted-after (omega (arith, f.space)) p (emitted-after both-spaces.0 q d))
 
--- One field, by its octet in the layout
-
-pub record FieldReady (letters : Letters) (pool tape ws : List ℕ) (c j at : ℕ) (out : List ℕ) : Type 0 where
-  pub words : j + width (field_of c) ≤ length ws
-  pub ready : Ready (field_size letters pool tape (field_of c) (drop j ws)) at out
+-- One field
 
 -- what is ready has a size, that of its octets
 ready-size : (letters : Letters) (pool tape : List ℕ) (f : Field) (ws : List ℕ) (at : ℕ) (out : List ℕ) → Ready (field_size letters pool tape f ws) at out
@@ -195,65 +196,47 @@ ready-size letters pool tape (arg k) ws at out h =
     let r = ready-sized (judge_arg letters pool tape k (arg_from k ws)) (judge_arg_length letters k v) (length (arg_octets letters k v)) at out h in
     rw (r.0, r.1)
 
-module _ {letters : Letters} {pool tape ws : List ℕ} {c j at : ℕ} {out : List ℕ} (f : FieldReady letters pool tape ws c j at out) where
-  pub field-space : at + length (octets_of letters pool tape (field_of c) (drop j ws)) ≤ length out
-  field-space = rw (ready-size letters pool tape (field_of c) (drop j ws) at out f.ready) at f.ready
+module _ (letters : Letters) (pool tape ws : List ℕ) (at : ℕ) (out : List ℕ) where
+  abbrev pub FieldReady : Field → Type 0
+  FieldReady f = Ready (field_size letters pool tape f ws) at out
 
-  pub number_is : c / 16 ≡ 0x0 → octets_of letters pool tape (field_of c) (drop j ws) ≡ number.octets (number_width (c % 16)) (get_or ws j 0)
+  abbrev pub field_octets_here : Field → List ℕ
+  field_octets_here f = octets_of letters pool tape f ws
+
+  pub field-space : (f : Field) → FieldReady f → at + length (field_octets_here f) ≤ length out
+  field-space f h = rw (ready-size letters pool tape f ws at out h) at h
+
+  pub number_is : (k : ℕ) → field_octets_here (arg (number k)) ≡ number.octets k (get_or ws 0 0)
   unfolding octets_of
-  number_is h = rw (code-arm c 0x0 h, first_word ws j)
+  number_is k = refl
 
-  pub number-ready : c / 16 ≡ 0x0 → (j < length ws) × (at + number_width (c % 16) ≤ length out)
-  number-ready h =
-      let e : field_of c ≡ arg (number (number_width (c % 16))) = code-arm c 0x0 h in
-      (omega (arith, rw e at f.words), omega (arith, rw (number_is h) at field-space, length-octets (number_width (c % 16)) (get_or ws j 0)))
+  pub number-space : (k : ℕ) → FieldReady (arg (number k)) → at + k ≤ length out
+  number-space k h = omega (arith, rw (number_is k) at (field-space (arg (number k)) h), length-octets k (get_or ws 0 0))
 
-  pub flags-is : c / 16 ≡ 0xB → octets_of letters pool tape (field_of c) (drop j ws) ≡ number.octets 1 (flags_octet (c % 16) (get_or ws j 0))
-  unfolding octets_of
-  flags-is h = rw (code-arm c 0xB h, first_word ws j)
-
-  pub flags-ready : c / 16 ≡ 0xB → (j < length ws) × (at + 1 ≤ length out)
-  flags-ready h =
-      let e : field_of c ≡ arg (bits (places (c % 16))) = code-arm c 0xB h in
-      (omega (arith, rw e at f.words), rw (flags-is h) at field-space)
-
-  -- strings, which need no tape
-  pub short-is : c / 16 ≡ 0x5 → octets_of letters pool tape (field_of c) (drop j ws) ≡ octets_of letters pool [] (arg short_str) (drop j ws)
-  unfolding octets_of
-  short-is h = rw (code-arm c 0x5 h)
-
-  pub short-ready : c / 16 ≡ 0x5 → (j + 2 ≤ length ws) × Ready (field_size letters pool [] (arg short_str) (drop j ws)) at out
-  unfolding field_size
-  short-ready h = let e : field_of c ≡ arg short_str = code-arm c 0x5 h in (rw e at f.words, rw e at f.ready)
-
-  pub login-is : c / 16 ≡ 0xD → octets_of letters pool tape (field_of c) (drop j ws) ≡ octets_of letters pool [] (arg login) (drop j ws)
-  unfolding octets_of
-  login-is h = rw (code-arm c 0xD h)
-
-  pub login-ready : c / 16 ≡ 0xD → (j + 4 ≤ length ws) × Ready (field_size letters pool [] (arg login) (drop j ws)) at out
-  unfolding field_size
-  login-ready h = let e : field_of c ≡ arg login = code-arm c 0xD h in (rw e at f.words, rw e at f.ready)
-
-  module _ {after : List ℕ} {w : Answer Unit} {r : ℕ} where
-    pub table-emitted : c / 16 ≡ 0xF → outcome w after ≡ write_table letters pool tape at out → r ≡ next_or at w
-        → Emitted (octets_of letters pool tape (field_of c) (drop j ws)) at out after r
+  module _ (w : Result ℕ WireError) {after : List ℕ} where
+    table-put : FieldReady (arg table) → outcome (answer_of_written w) after ≡ write_table letters pool tape at out → outcome (answer_of_written w) after ≡ write_at None (field_octets_here (arg table)) at out
     unfolding field_size octets_of write_table
-    table-emitted h o q =
-        let e : field_of c ≡ arg table = code-arm c 0xF h in
-        let y = ready-sized (judge_table letters pool tape) _ _ at out (rw e at f.ready) in
-        emitted {w = w} field-space (rw e (rw (y.0, y.1) at o)) q
+    table-put h o = let y = ready-sized (judge_table letters pool tape) _ _ at out h in rw (y.0, y.1) at o
 
-    pub fixed-emitted : Rest arg_arms (c / 16) → outcome w after ≡ write_octets (fixed_octets (field_of c)) at out → r ≡ next_or at w
-        → Emitted (octets_of letters pool tape (field_of c) (drop j ws)) at out after r
+    pub table-ok : FieldReady (arg table) → outcome (answer_of_written w) after ≡ write_table letters pool tape at out → IsOk w
+    table-ok h o = is_written w _ at out (field-space (arg table) h) (table-put h o)
+
+    pub table-written : {r : ℕ} → FieldReady (arg table) → outcome (answer_of_written w) after ≡ write_table letters pool tape at out → w ≡ Ok r → Emitted (field_octets_here (arg table)) at out after r
+    table-written h o q = emitted w (field-space (arg table) h) (table-put h o) q
+
+    fixed-put : (xs : List ℕ) → outcome (answer_of_written w) after ≡ write_octets xs at out → outcome (answer_of_written w) after ≡ write_at None (field_octets_here (fixed xs)) at out
     unfolding octets_of write_octets
-    fixed-emitted h o q =
-        let e : octets_of letters pool tape (field_of c) (drop j ws) ≡ fixed_octets (field_of c) = rw (code-rest c h) in
-        emitted {w = w} field-space (rw e o) q
+    fixed-put xs o = o
+
+    pub fixed-ok : (xs : List ℕ) → FieldReady (fixed xs) → outcome (answer_of_written w) after ≡ write_octets xs at out → IsOk w
+    fixed-ok xs h o = is_written w _ at out (field-space (fixed xs) h) (fixed-put xs o)
+
+    pub fixed-written : {r : ℕ} (xs : List ℕ) → FieldReady (fixed xs) → outcome (answer_of_written w) after ≡ write_octets xs at out → w ≡ Ok r → Emitted (field_octets_here (fixed xs)) at out after r
+    fixed-written xs h o q = emitted w (field-space (fixed xs) h) (fixed-put xs o) q
 
 -- Fields, one behind another
 
 first-ready : (a b : Size) (at : ℕ) (out : List ℕ) → Ready (both a b) at out → Ready a at out
-unfolding both
 first-ready (octets m) (octets n) at out h = omega arith
 first-ready (octets m) long at out h = absurd h
 first-ready (octets m) (refused r) at out h = absurd h
@@ -263,7 +246,6 @@ first-ready long (refused r) at out h = absurd h
 first-ready (refused r) b at out h = absurd h
 
 rest-ready : (m : ℕ) (b : Size) (at next : ℕ) (out mid : List ℕ) → Ready (both (octets m) b) at out → next ≡ at + m → length mid ≡ length out → Ready b next mid
-unfolding both
 rest-ready m (octets n) at next out mid h e l = omega arith
 rest-ready m long at next out mid h e l = absurd h
 rest-ready m (refused r) at next out mid h e l = absurd h
@@ -281,68 +263,54 @@ module _ (letters : Letters) (pool tape : List ℕ) where
 
 -- The loop over fields: those left, written at `at`, write the whole
 
-pub record Going (pool tape ws layout : List ℕ) (present from : ℕ) (out₀ out : List ℕ) (flags weight at j i : ℕ) : Type 0 where
-  pub fs : List Field
-  pub left : Left layout weight flags i fs
-  pub words : j + widths fs ≤ length ws
-  pub ready : Ready (fields_size errata pool tape fs (drop j ws)) at out
-  pub rest : splice at (octets_of_all errata pool tape fs (drop j ws)) out ≡ splice from (octets_of_all errata pool tape (select (flags_of 13 present) (map field_of layout)) ws) out₀
-  pub same : length out ≡ length out₀
+pub record Going (pool tape : List ℕ) (fs : List Field) (ws : List ℕ) (from : ℕ) (before : List ℕ) (left : List Field) (rest : List ℕ) (at : ℕ) (out : List ℕ) : Type 0 where
+  pub there : widths left ≤ length rest
+  pub ready : Ready (fields_size errata pool tape left rest) at out
+  pub same : splice at (octets_of_all errata pool tape left rest) out ≡ splice from (octets_of_all errata pool tape fs ws) before
 
-module _ {pool tape ws layout : List ℕ} {present from : ℕ} {out₀ out : List ℕ} {flags weight at j i : ℕ} (go : Going pool tape ws layout present from out₀ out flags weight at j i) where
-  pub at-end : length layout ≤ i → out ≡ splice from (octets_of_all errata pool tape (select (flags_of 13 present) (map field_of layout)) ws) out₀
-  at-end h =
-      let e : [] ≡ octets_of_all errata pool tape go.fs (drop j ws) =
-      sym (ap (λ (fs : List Field). octets_of_all errata pool tape fs (drop j ws)) (none_left layout weight flags i go.fs go.left h) ∙ no-octets errata pool tape (drop j ws)) in
-      sym (splice-nil at out) ∙ ap (λ (xs : List ℕ). splice at xs out) e ∙ go.rest
+pub at-start : {pool tape : List ℕ} {fs : List Field} {ws : List ℕ} {from : ℕ} {out : List ℕ} {left : List Field} → left ≡ fs → widths fs ≤ length ws → Ready (fields_size errata pool tape fs ws) from out
+    → Going pool tape fs ws from out left ws from out
+at-start e w r = rw e (record { there = w; ready = r; same = refl })
 
-  module _ (more : i < length layout) where
-    pub turn-absent : flags < weight → Going pool tape ws layout present from out₀ out flags (weight / 2) at j (i + 1)
-    turn-absent h =
-        record {
-          fs = go.fs;
-          left = absent-left layout weight flags i go.fs more go.left h;
-          words = go.words;
-          ready = go.ready;
-          rest = go.rest;
-          same = go.same;
-        }
+module _ {pool tape : List ℕ} {fs : List Field} {ws : List ℕ} {from : ℕ} {before : List ℕ} {left : List Field} {rest : List ℕ} {at : ℕ} {out : List ℕ}
+    (go : Going pool tape fs ws from before left rest at out) where
+  pub at-end : left ≡ [] → out ≡ splice from (octets_of_all errata pool tape fs ws) before
+  at-end e =
+      let none : [] ≡ octets_of_all errata pool tape left rest = sym (ap (λ (fs : List Field). octets_of_all errata pool tape fs rest) e ∙ no-octets errata pool tape rest) in
+      sym (splice-nil at out) ∙ ap (λ (xs : List ℕ). splice at xs out) none ∙ go.same
 
-    module _ (h : weight ≤ flags) where
-      abbrev field : Field
-      field = field_of (get_or layout i 0)
+  module _ (c : CodeField) {others : List Field} (turn : left ≡ field_of c ∷ others) where
+    abbrev field : Field
+    field = field_of c
 
-      turn : Present layout weight flags i go.fs
-      turn = present-left layout weight flags i go.fs more go.left h
+    turn-sizes : Ready (both (field_size errata pool tape field rest) (fields_size errata pool tape others (drop (width field) rest))) at out
+    turn-sizes = rw (turn, fields-size pool tape field others rest) at go.ready
 
-      turn-sizes : Ready (both (field_size errata pool tape field (drop j ws)) (fields_size errata pool tape turn.others (drop (width field) (drop j ws)))) at out
-      turn-sizes = rw (turn.first, fields-size pool tape field turn.others (drop j ws)) at go.ready
+    turn-words : width field + widths others ≤ length rest
+    turn-words = rw turn at go.there
 
-      pub turn-ready : FieldReady errata pool tape ws (get_or layout i 0) j at out
-      turn-ready = record { words = omega (arith, rw turn.first at go.words); ready = first-ready _ _ at out turn-sizes }
+    pub turn-ready : (width field ≤ length rest) × Ready (field_size errata pool tape field rest) at out
+    turn-ready = (omega (arith, turn-words), first-ready _ _ at out turn-sizes)
 
-      pub turn-present : {mid : List ℕ} {next : ℕ} → Emitted (octets_of errata pool tape field (drop j ws)) at out mid next
-          → Going pool tape ws layout present from out₀ mid (flags - weight) (weight / 2) next (j + width field) (i + 1)
-      turn-present {mid} {next} d =
-          let same : length mid ≡ length out = emitted-length (field-space turn-ready) d in
-          let cut : drop (width field) (drop j ws) ≡ drop (j + width field) ws = drop-drop (width field) j ws in
-          let xs = octets_of errata pool tape field (drop j ws) in
-          let ys = octets_of_all errata pool tape turn.others (drop (j + width field) ws) in
-          let all : octets_of_all errata pool tape go.fs (drop j ws) ≡ xs ++ ys =
-          ap (λ (fs : List Field). octets_of_all errata pool tape fs (drop j ws)) turn.first
-          ∙ fields-octets errata pool tape field turn.others (drop j ws)
-          ∙ ap (λ (vs : List ℕ). xs ++ octets_of_all errata pool tape turn.others vs) cut in
-          let size = ready-size errata pool tape field (drop j ws) at out turn-ready.ready in
-          record {
-            fs = turn.others;
-            left = turn.left;
-            words = omega (arith, rw turn.first at go.words);
-            ready = rw cut at (rest-ready (length xs) _ at next out mid (rw size at turn-sizes) d.next same);
-            rest =
-                ap (λ (k : ℕ). splice k ys mid) d.next
-                ∙ ap (splice (at + length xs) ys) d.memory
-                ∙ splice-after at xs ys out (field-space turn-ready)
-                ∙ ap (λ (zs : List ℕ). splice at zs out) (sym all)
-                ∙ go.rest;
-            same = same ∙ go.same;
-          }
+    turn-space : at + length (octets_of errata pool tape field rest) ≤ length out
+    turn-space = field-space errata pool tape rest at out field turn-ready.1
+
+    pub turn-next : {mid : List ℕ} {next k : ℕ} → Emitted (octets_of errata pool tape field rest) at out mid next → k ≡ width field
+        → Going pool tape fs ws from before others (take (length rest - k) (drop k rest)) next mid
+    turn-next {mid} {next} {k} d w =
+        let xs = octets_of errata pool tape field rest in
+        let ys = octets_of_all errata pool tape others (drop (width field) rest) in
+        let all : octets_of_all errata pool tape left rest ≡ xs ++ ys =
+        ap (λ (fs : List Field). octets_of_all errata pool tape fs rest) turn ∙ fields-octets errata pool tape field others rest in
+        let size = ready-size errata pool tape field rest at out turn-ready.1 in
+        rw (w, words-behind (width field) rest)
+        (record {
+          there = omega (arith, turn-words, length-drop (width field) rest);
+          ready = rest-ready (length xs) _ at next out mid (rw size at turn-sizes) d.next (emitted-length turn-space d);
+          same =
+              ap (λ (k : ℕ). splice k ys mid) d.next
+              ∙ ap (splice (at + length xs) ys) d.memory
+              ∙ splice-after at xs ys out turn-space
+              ∙ ap (λ (zs : List ℕ). splice at zs out) (sym all)
+              ∙ go.same;
+        })

@@ -1,19 +1,14 @@
--- What the answers of the first pass say, of fields and of a whole payload.
-use Rattle.std.specs.Prelude.{ℕ, ◌⊎◌}
-use Rattle.std.proofs.Common.{inl, inr}
-use Rattle.types.specs.Answer.{Refusal}
+-- What the answers of the first pass say of a field.
+use Rattle.std.specs.Prelude.{Option, None, Some, Result, Ok, Err, ℕ}
 use Rattle.types.specs.AnswerOf.{refusal}
+use Rattle.types.specs.declared.WireError.{WireError}
 use Rattle.method_writer.specs.Sizes.{Size, octets, long, refused}
-use Rattle.method_writer.specs.declared.sizes.FieldSize.{FieldSize}
-use Rattle.method_writer.specs.declared.sizes.FieldSize.TheVariants as code
-use Rattle.method_writer.specs.declared.PayloadSize.{PayloadSize}
-use Rattle.method_writer.specs.declared.PayloadSize.TheVariants as payload
 
-abbrev pub answer_of_size : FieldSize → Size
-answer_of_size (code.Octets n) = octets n
-answer_of_size code.TooLong = long
-answer_of_size (code.Refused e) = refused (refusal e)
+-- none: a length is too great
+abbrev pub size_of : Option ℕ → Size
+size_of (Some n) = octets n
+size_of None = long
 
-abbrev pub answer_of_payload_size : PayloadSize → ℕ ⊎ Refusal
-answer_of_payload_size (payload.Octets n) = inl n
-answer_of_payload_size (payload.Refused e) = inr (refusal e)
+abbrev pub answer_of_size : Result (Option ℕ) WireError → Size
+answer_of_size (Ok s) = size_of s
+answer_of_size (Err e) = refused (refusal e)

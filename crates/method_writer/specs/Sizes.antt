@@ -1,6 +1,6 @@
 -- What the first pass answers of fields: the first refusal of an argument, a length that is too great, or how many octets there are to write.
-use Rattle.std.proofs.Math.Option.{Option, none, some}
-use Rattle.std.specs.Prelude.{List, ℕ, length}
+use Rattle.std.specs.Prelude.{Option, None, Some}
+use Rattle.std.specs.Prelude.{List, ℕ, ◌+◌, length}
 use Rattle.types.specs.Answer.{Refusal}
 use Rattle.tables.specs.Letters.{Letters}
 use Rattle.method.specs.Fields.{Kind, Field, fixed, arg, Meaning, Args}
@@ -15,9 +15,25 @@ pub data Size : Type 0 where
 
 -- the arguments, then the lengths, then the size
 abbrev pub sized : Option Refusal → Option Refusal → ℕ → Size
-sized (some r) lengths n = refused r
-sized none (some r) n = long
-sized none none n = octets n
+sized (Some r) lengths n = refused r
+sized None (Some r) n = long
+sized None None n = octets n
+
+-- one size and then another: the first refusal, then a length that is too great, then the sum
+abbrev pub both : Size → Size → Size
+both (refused r) b = refused r
+both long (refused r) = refused r
+both long long = long
+both long (octets n) = long
+both (octets m) (refused r) = refused r
+both (octets m) long = long
+both (octets m) (octets n) = octets (m + n)
+
+-- how many octets there are, if they can be counted
+abbrev pub count : Size → ℕ
+count (octets n) = n
+count long = 0
+count (refused r) = 0
 
 module _ (letters : Letters) (pool tape : List ℕ) where
   -- what an argument and arguments mean, from their words

@@ -1,3 +1,2 @@
 -- The specification of payloads as words.
 pub mod Words
-pub mod AnswerOf

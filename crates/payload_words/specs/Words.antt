@@ -1,7 +1,7 @@
 -- A frame's payload as 26 words, the frame type first, and the payload that words stand for.
 use Rattle.std.specs.Prelude.{◌⊎◌, List, [], ◌∷◌, ◌++◌, ℕ, ◌%◌, take, drop, get_or}
 use Rattle.std.proofs.Common.{inl, inr}
-use Rattle.std.proofs.Math.Option.{Option, none, some}
+use Rattle.std.specs.Prelude.{Option, None, Some}
 use Rattle.types.specs.Answer.{Refusal, unsupported_field_type, unknown_method}
 use Rattle.types.specs.Lookup.{row, lookup}
 use Rattle.types.specs.declared.Span.{Span}
@@ -35,8 +35,8 @@ payload_words heartbeat = heartbeat_words
 -- Back: numbers are cut to their width, but for class and method of a command, which then are not known
 
 abbrev pub command_or : ℕ → ℕ → Option (Command Pooled) → Payload Pooled Span ⊎ Refusal
-command_or c m none = inr (unknown_method (c % 65536) (m % 65536))
-command_or c m (some x) = inl (command x)
+command_or c m None = inr (unknown_method (c % 65536) (m % 65536))
+command_or c m (Some x) = inl (command x)
 
 abbrev pub command_from : List ℕ → Payload Pooled Span ⊎ Refusal
 command_from ws = command_or (get_or ws 1 0) (get_or ws 2 0) (command_with (get_or ws 1 0) (get_or ws 2 0) (take 8 (drop 3 ws)))

@@ -3,48 +3,38 @@
 // 22 property words; a body its start and length; a heartbeat nothing. Words that are not used are 0.
 #![tactic(auto)]
 
-ghost use Rattle.std.specs.Prelude.{◌≡◌, ◌+◌, ◌≤◌, length};
-ghost use Rattle.types.specs.Memory.{splice};
+ghost use Rattle.std.specs.Prelude.{◌≡◌};
 ghost use Rattle.method.specs.AnswerOf.{header_of};
 ghost use Rattle.payload_words.specs.Words.{call_words, content_header_words, body_words, heartbeat_words, command_from, header_from, payload_from};
-ghost use Rattle.payload_words.specs.AnswerOf.{answer_of_payload};
+ghost use Rattle.types.specs.AnswerOf.{or_refusal};
+ghost use Rattle.frame.specs.AnswerOf.{payload_of};
 
-use frame::Payload;
+use frame::{FrameType, Payload};
 use method::ContentHeader;
 use method_words::commands::known_command;
+use method_words::cut::{low_u8, low_u16};
 use method_words::headers::header_of;
-use method_words::{Call, HeaderWords, KnownCommand};
+use method_words::{Call, HeaderWords};
 use types::{Span, WireError};
 
-// What words stand for, or why they stand for no payload.
-#[derive(Clone, Copy)]
-pub enum PayloadFrom {
-    Value(Payload),
-    Refused(WireError),
-}
+// The first word, by the type of the frame.
+const METHOD: u64 = FrameType::Method as u64;
 
-// Puts words where they all have space.
-fn put_words(to: &mut [u64], at: usize, from: &[u64])
-    requires { at + length from.now ≤ length to.old }
-    ensures { to.new ≡ splice at from.now to.old }
-{
-    let mut i = 0;
-    while i < from.len() {
-        to[at + i] = from[i];
-        i += 1;
-    }
-}
+const HEADER: u64 = FrameType::Header as u64;
+
+const BODY: u64 = FrameType::Body as u64;
+
+const HEARTBEAT: u64 = FrameType::Heartbeat as u64;
 
 // The words of a command.
 pub fn call_words(call: Call) -> [u64; 26]
     ensures { result ≡ call_words call }
 {
-    let arguments = call.words;
     let mut words = [0u64; 26];
-    words[0] = 1;
+    words[0] = METHOD;
     words[1] = call.class as u64;
     words[2] = call.method as u64;
-    put_words(&mut words, 3, &arguments);
+    words[3..11].copy_from_slice(&call.words);
     words
 }
 
@@ -52,13 +42,12 @@ pub fn call_words(call: Call) -> [u64; 26]
 pub fn content_header_words(header: HeaderWords) -> [u64; 26]
     ensures { result ≡ content_header_words header }
 {
-    let properties = header.words;
     let mut words = [0u64; 26];
-    words[0] = 2;
+    words[0] = HEADER;
     words[1] = header.class as u64;
     words[2] = header.body_size;
     words[3] = header.present as u64;
-    put_words(&mut words, 4, &properties);
+    words[4..26].copy_from_slice(&header.words);
     words
 }
 
@@ -67,9 +56,8 @@ pub fn body_words(body: Span) -> [u64; 26]
     ensures { result ≡ body_words body }
 {
     let mut words = [0u64; 26];
-    words[0] = 3;
-    words[1] = body.start as u64;
-    words[2] = body.len as u64;
+    words[0] = BODY;
+    words[1..3].copy_from_slice(&body.to_words());
     words
 }
 
@@ -78,52 +66,45 @@ pub fn heartbeat_words() -> [u64; 26]
     ensures { result ≡ heartbeat_words }
 {
     let mut words = [0u64; 26];
-    words[0] = 8;
+    words[0] = HEARTBEAT;
     words
 }
 
 // Class and method as they stand: more than 16 bits are no command's.
-fn command_from(words: [u64; 26]) -> PayloadFrom
-    ensures { answer_of_payload result ≡ command_from words }
+fn command_from(words: [u64; 26]) -> Result<Payload, WireError>
+    ensures { or_refusal payload_of result ≡ command_from words }
 {
-    let class = (words[1] % 0x1_0000) as u16;
-    let method = (words[2] % 0x1_0000) as u16;
-    if words[1] != class as u64 {
-        return PayloadFrom::Refused(WireError::UnknownMethod(class, method));
-    }
-    if words[2] != method as u64 {
-        return PayloadFrom::Refused(WireError::UnknownMethod(class, method));
-    }
+    let unknown = WireError::UnknownMethod(low_u16(words[1]), low_u16(words[2]));
+    let Ok(class) = u16::try_from(words[1]) else {
+        return Err(unknown);
+    };
+    let Ok(method) = u16::try_from(words[2]) else {
+        return Err(unknown);
+    };
     let mut arguments = [0u64; 8];
-    put_words(&mut arguments, 0, &words[3..11]);
-    match known_command(class, method, arguments) {
-        KnownCommand::Unknown => PayloadFrom::Refused(WireError::UnknownMethod(class, method)),
-        KnownCommand::Known(command) => PayloadFrom::Value(Payload::Command(command)),
-    }
+    arguments.copy_from_slice(&words[3..11]);
+    let command = known_command(class, method, arguments).ok_or(unknown)?;
+    Ok(Payload::Command(command))
 }
 
 fn header_from(words: [u64; 26]) -> ContentHeader
     ensures { header_of result ≡ header_from words }
 {
-    let class = (words[1] % 0x1_0000) as u16;
-    let present = (words[3] % 0x1_0000) as u16;
     let mut properties = [0u64; 22];
-    put_words(&mut properties, 0, &words[4..26]);
-    header_of(class, words[2], present, properties)
+    properties.copy_from_slice(&words[4..26]);
+    header_of(low_u16(words[1]), words[2], low_u16(words[3]), properties)
 }
 
-// The payload that words stand for. Numbers are cut to their width.
-pub fn payload_from(words: [u64; 26]) -> PayloadFrom
-    ensures { answer_of_payload result ≡ payload_from words }
+// The payload that words stand for. Numbers are cut to their width. C lends the words, so the type is a number, and any of 64 bits. No
+// function makes words of a payload: readers make them of what they read, without one, and the test program alone would call it.
+pub fn payload_from(words: [u64; 26]) -> Result<Payload, WireError>
+    ensures { or_refusal payload_of result ≡ payload_from words }
 {
     match words[0] {
-        1 => command_from(words),
-        2 => PayloadFrom::Value(Payload::Header(header_from(words))),
-        3 => PayloadFrom::Value(Payload::Body(Span {
-            start: words[1] as usize,
-            len: words[2] as usize,
-        })),
-        8 => PayloadFrom::Value(Payload::Heartbeat),
-        other => PayloadFrom::Refused(WireError::UnsupportedFieldType((other % 0x100) as u8)),
+        METHOD => command_from(words),
+        HEADER => Ok(Payload::Header(header_from(words))),
+        BODY => Ok(Payload::Body(Span::from_words([words[1], words[2]]))),
+        HEARTBEAT => Ok(Payload::Heartbeat),
+        other => Err(WireError::UnsupportedFieldType(low_u8(other))),
     }
 }

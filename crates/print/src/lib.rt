@@ -1,8 +1,21 @@
-// Text on standard output, through a lent buffer that is written whenever it is full. A function takes the place in the buffer for
-// its first octet and answers the place behind its last. A write that fails is told on standard error, and its text is lost.
+// Text on standard output, gathered in a lent buffer that is written whenever it is full. A write that fails is told on standard error,
+// and its text is lost.
 #![tactic(auto)]
 
-ghost use Rattle.std.specs.Prelude.{◌≡◌, ◌+◌, ◌≤◌, length};
+ghost use Rattle.std.specs.Prelude.{◌≤◌, length};
+
+use std::fmt;
+
+// No BufWriter of std: that takes its buffer from an allocator, answers each write with a Result that every line would have to look at, and
+// cannot forget what is not yet written, as `conformance` does. The first `at` octets of the buffer are not yet written. Functions that
+// others call say so too (FitsBuffer), since each promises something.
+#[derive(Drop)]
+pub struct Printer<'a> {
+    rt: HostRuntime,
+    out: &'a mut [u8],
+    at: usize,
+    ghost inside: { at ≤ length out.now },
+}
 
 fn write(rt: HostRuntime, s: &[u8]) {
     if rt.write_all(s).is_err() {
@@ -10,117 +23,79 @@ fn write(rt: HostRuntime, s: &[u8]) {
     }
 }
 
-// Writes what stands in front of `at`. The next octet has the first place then.
-pub fn flush(rt: HostRuntime, out: &[u8], at: usize) -> usize
-    ensures { result ≡ 0 }
-{
-    if at <= out.len() {
-        write(rt, &out[0..at]);
+impl<'a> Printer<'a> {
+    ghost use Rattle.print.specs.Printing.{FitsBuffer, pending_of};
+    ghost use Rattle.std.specs.Prelude.{◌≡◌, []};
+
+    pub fn new(rt: HostRuntime, out: &'a mut [u8]) -> Printer<'a>
+        ensures { pending_of result ≡ [] }
+    {
+        Printer { rt, out, at: 0 }
     }
-    0
-}
 
-// The place for n octets more: the first one where the buffer has no room for them behind `at`.
-fn place_for(rt: HostRuntime, out: &[u8], at: usize, n: usize) -> usize
-    ensures { result ≤ length out.now }
-{
-    if at <= out.len() && n <= out.len() - at {
-        return at;
+    // What is not yet written.
+    pub fn pending(&self) -> &[u8]
+        ensures { result.now ≡ pending_of self.now }
+    {
+        &self.out[..self.at]
     }
-    flush(rt, out, at)
-}
 
-// A place behind the buffer is its end.
-pub fn inside(out: &[u8], at: usize) -> usize
-    ensures { result ≤ length out.now }
-{
-    if out.len() < at { out.len() } else { at }
-}
-
-fn copy(out: &mut [u8], at: usize, s: &[u8])
-    requires { at + length s.now ≤ length out.old }
-    ensures { length out.new ≡ length out.old }
-{
-    let mut i = 0;
-    while i < s.len() {
-        out[at + i] = s[i];
-        i += 1;
+    // Forgets what is not yet written.
+    pub fn discard(&mut self)
+        ensures { pending_of self.new ≡ [] }
+    {
+        self.at = 0;
     }
-}
 
-pub fn text(rt: HostRuntime, out: &mut [u8], at: usize, s: &[u8]) -> usize
-    ensures { result ≤ length out.old }
-{
-    let start = place_for(rt, out, at, s.len());
-    if out.len() - start < s.len() {
-        // It is longer than the whole buffer, which has been written.
-        write(rt, s);
-        return start;
+    pub fn flush(&mut self)
+        ensures { pending_of self.new ≡ [] }
+    {
+        write(self.rt, &self.out[..self.at]);
+        self.at = 0;
     }
-    copy(out, start, s);
-    start + s.len()
-}
 
-pub fn put(rt: HostRuntime, out: &mut [u8], at: usize, b: u8) -> usize
-    ensures { result ≤ length out.old }
-{
-    let start = place_for(rt, out, at, 1);
-    if out.len() <= start {
-        return start;
+    pub fn text(&mut self, s: &[u8])
+        ensures { FitsBuffer self.new }
+    {
+        if self.out.len() - self.at < s.len() {
+            self.flush();
+        }
+        if self.out.len() - self.at < s.len() {
+            // It is longer than the whole buffer, which has been written.
+            write(self.rt, s);
+            return;
+        }
+        let end = self.at + s.len();
+        self.out[self.at..end].copy_from_slice(s);
+        self.at = end;
     }
-    out[start] = b;
-    start + 1
-}
 
-pub fn decimal(rt: HostRuntime, out: &mut [u8], at: usize, n: u64) -> usize
-    ensures { result ≤ length out.old }
-{
-    let mut digits = [0u8; 20];
-    digits[19] = b'0' + (n % 10) as u8;
-    let mut rest = n / 10;
-    let mut i = 19;
-    while 0 < i && rest != 0 {
-        i -= 1;
-        digits[i] = b'0' + (rest % 10) as u8;
-        rest /= 10;
+    pub fn put(&mut self, b: u8)
+        ensures { FitsBuffer self.new }
+    {
+        self.text(&[b]);
     }
-    text(rt, out, at, &digits[i..])
-}
 
-// Without leading zeros.
-pub fn hex(rt: HostRuntime, out: &mut [u8], at: usize, n: u64) -> usize
-    ensures { result ≤ length out.old }
-{
-    let mut digits = [0u8; 16];
-    digits[15] = digit((n % 16) as u8);
-    let mut rest = n / 16;
-    let mut i = 15;
-    while 0 < i && rest != 0 {
-        i -= 1;
-        digits[i] = digit((rest % 16) as u8);
-        rest /= 16;
+    // Two digits an octet.
+    pub fn octets(&mut self, s: &[u8])
+        ensures { FitsBuffer self.new }
+    {
+        for b in s {
+            write!(self, "{b:02x}");
+        }
     }
-    text(rt, out, at, &digits[i..])
-}
 
-fn digit(x: u8) -> u8 {
-    if x % 16 < 10 {
-        b'0' + x % 16
-    } else {
-        b'a' + (x % 16 - 10)
+    // What `write!` calls. Its text never fails to be taken, so there is no result to look at.
+    pub fn write_fmt<D: fmt::Display + Drop>(&mut self, text: D)
+        ensures { FitsBuffer self.new }
+    {
+        let _ = fmt::Write::write(self, text);
     }
 }
 
-// Two digits an octet.
-pub fn octets(rt: HostRuntime, out: &mut [u8], at: usize, s: &[u8]) -> usize
-    ensures { result ≤ length out.old }
-{
-    let mut next = inside(out, at);
-    let mut i = 0;
-    while i < s.len() {
-        let b = s[i];
-        next = text(rt, out, next, &[digit(b / 16), digit(b)]);
-        i += 1;
+impl fmt::Write for Printer<'_> {
+    fn write_str(&mut self, s: &str) -> fmt::Result {
+        self.text(s.as_bytes());
+        Ok(())
     }
-    next
 }

@@ -8,17 +8,17 @@ use Rattle.replies.specs.declared.MethodId.{MethodId}
 use Rattle.replies.specs.declared.TuneParams.{TuneParams}
 
 -- class and method
-unfoldable pub method_id_at : List ℕ → ℕ → Answer MethodId
+abbrev pub method_id_at : List ℕ → ℕ → Answer MethodId
 method_id_at s p = and_then (uint_at 2 s p) (λ c q. and_then (uint_at 2 s q) (λ m r. given (record { class = c; method = m }) r))
 
 -- the same, passed over; and what follows
-unfoldable pub skip_ids_at : List ℕ → ℕ → Answer Unit
+abbrev pub skip_ids_at : List ℕ → ℕ → Answer Unit
 skip_ids_at s p = and_then (method_id_at s p) (λ id q. given tt q)
 
-unfoldable pub after_ids : {A : Type 0} → (List ℕ → ℕ → Answer A) → List ℕ → ℕ → Answer A
+abbrev pub after_ids : {A : Type 0} → (List ℕ → ℕ → Answer A) → List ℕ → ℕ → Answer A
 after_ids read s p = and_then (skip_ids_at s p) (λ ids q. read s q)
 
-unfoldable pub tune_params_at : List ℕ → ℕ → Answer TuneParams
+abbrev pub tune_params_at : List ℕ → ℕ → Answer TuneParams
 tune_params_at s p =
     and_then (uint_at 2 s p)
     (λ c q.
@@ -41,7 +41,7 @@ abbrev pub basic_get_ok_delivery_tag_at : List ℕ → ℕ → Answer ℕ
 basic_get_ok_delivery_tag_at = after_ids (uint_at 8)
 
 -- behind the consumer tag
-unfoldable pub basic_deliver_delivery_tag_at : List ℕ → ℕ → Answer ℕ
+abbrev pub basic_deliver_delivery_tag_at : List ℕ → ℕ → Answer ℕ
 basic_deliver_delivery_tag_at s p = and_then (after_ids short_str_at s p) (λ tag q. uint_at 8 s q)
 
 abbrev pub basic_ack_delivery_tag_at : List ℕ → ℕ → Answer ℕ

@@ -1,60 +1,97 @@
 // A case: its line taken apart into an operation, fields and records.
-use crate::tape;
+use crate::parts::Parts;
+use crate::record::Records;
 use cases::line;
-use cases::line::{Marks, NO_LIMIT};
+use cases::operation::{OctetWriter, Operation};
+use types::Span;
 
-// The operation, its position and limit; how many fields there are, how many octets the pool holds, and how many words of the tape the
-// records are.
+// The operation, the position and the limit, if there is one; the fields, and the pool in which they and the strings of the records stand;
+// the words of the records.
 #[derive(Clone, Copy)]
-pub struct Case {
-    pub op: u8,
+pub struct Case<'a> {
+    pub operation: Operation,
     pub at: usize,
-    pub limit: usize,
-    pub fields: usize,
-    pub held: usize,
-    pub words: usize,
+    pub limit: Option<usize>,
+    pub fields: &'a [Span],
+    pub pool: &'a [u8],
+    pub records: &'a [u64],
 }
 
-// The number that no operation has.
-pub const NO_CASE: u8 = 0xFF;
+// The one octet that a field is.
+pub fn octet_of(field: &[u8]) -> Option<u8> {
+    let [octet] = field else {
+        return None;
+    };
+    Some(*octet)
+}
 
-// How many fields a writer without records takes.
-fn written_fields(op: u8) -> usize {
-    match op {
-        0x4c => 3,
-        0x4d => 0,
-        _ => 1,
+// The number that a field of two octets is.
+pub fn u16_of(field: &[u8]) -> Option<u16> {
+    let [high, low] = field else {
+        return None;
+    };
+    Some(u16::from_be_bytes([*high, *low]))
+}
+
+impl<'a> Case<'a> {
+    // The octets of field k; none where there is no such field.
+    pub fn field(self, k: usize) -> &'a [u8] {
+        match self.fields.get(k) {
+            None => &[],
+            Some(span) => span.octets_in(self.pool).unwrap_or(&[]),
+        }
+    }
+
+    // The records that were read onto a tape: by their words where the case says how many are lent.
+    pub fn records_on(self, tape: &'a [u64]) -> Records<'a> {
+        Records {
+            s: self.field(0),
+            tape,
+            by_words: self.limit.is_some(),
+        }
+    }
+
+    // Whether the operation takes so many fields, records and this limit. A table is written from records alone, or behind octets
+    // for plain words to count from; the writers of payloads judge their fields themselves.
+    fn is_whole(self) -> bool {
+        let fields = self.fields.len();
+        let is_plain = self.records.is_empty();
+        match self.operation {
+            Operation::Read(_) | Operation::Decode | Operation::ReadReply(_) => {
+                fields == 1 && is_plain && self.limit.is_none()
+            }
+            Operation::ReadTape(_) => fields == 1 && is_plain,
+            Operation::Walk => fields == 2 && is_plain,
+            Operation::Write(OctetWriter::Field(_)) => fields == 1 && is_plain,
+            Operation::Write(OctetWriter::Encode) => fields == 3 && is_plain,
+            Operation::Write(OctetWriter::ProtocolHeader) => fields == 0 && is_plain,
+            Operation::Write(OctetWriter::Table(_)) => fields <= 1,
+            Operation::Write(OctetWriter::Payload(_)) => true,
+            Operation::Write(OctetWriter::RelayFrame) => {
+                fields == 1 && is_plain && self.limit.is_none()
+            }
+            Operation::RecordValue | Operation::RecordSeconds => {
+                fields == 0 && self.limit.is_none()
+            }
+        }
     }
 }
 
-// Whether an operation takes so many fields, so many words of records and this limit, by its row. A table is written from records alone, or
-// behind octets for plain words to count from; the writers of payloads judge their fields themselves.
-fn takes(op: u8, fields: usize, words: usize, limit: usize) -> bool {
-    match op / 16 {
-        0x0 | 0x1 | 0x6 => fields == 1 && words == 0 && limit == NO_LIMIT,
-        0x2 => fields == 1 && words == 0,
-        0x3 => fields == 2 && words == 0,
-        0x4 => fields == written_fields(op) && words == 0,
-        0x5 => 0x51 < op || fields <= 1,
-        0x7 => fields == 0 && limit == NO_LIMIT,
-        _ => false,
+// What a line says, taken into its parts. None for a line that is no case.
+pub fn case_of<'a>(text: &[u8], parts: &'a mut Parts) -> Option<Case<'a>> {
+    parts.clear();
+    let (front, records) = line::split_at_slash(text)?;
+    let front = line::front_of(front, &mut parts.pool, &mut parts.fields)?;
+    if let Some(records) = records {
+        parts.take_records(records)?;
     }
-}
-
-// The octets of fields and records go into the pool, the places between the fields to the marks, the records' words onto the tape.
-pub fn case_of(text: &[u8], pool: &mut [u8], marks: &mut Marks, words: &mut [u64]) -> Case {
-    let front = line::read_front(text);
-    let fields = line::fields(text, front.next, pool, marks);
-    let count = fields.value as usize;
-    let held = line::held(marks, count);
-    let taken = tape::records(text, fields.next, held, pool, words);
-    let is_case = taken.next == line::END && takes(front.op, count, taken.words, front.limit);
-    Case {
-        op: if is_case { front.op } else { NO_CASE },
-        at: front.at,
+    let case = Case {
+        operation: front.operation,
+        at: front.at.unwrap_or(0),
         limit: front.limit,
-        fields: count,
-        held: taken.held,
-        words: taken.words,
-    }
+        fields: parts.fields.as_slice(),
+        pool: parts.pool.as_slice(),
+        records: parts.records.as_slice(),
+    };
+    case.is_whole().then_some(case)
 }

@@ -4,7 +4,8 @@
 
 pub mod case;
 pub mod lending;
+pub mod parts;
 pub mod record;
 pub mod table;
-pub mod tape;
+mod tape;
 pub mod value;

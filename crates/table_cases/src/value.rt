@@ -1,100 +1,87 @@
 // The value of a record, as its declared type holds it.
-use cases::answer;
-use cases::answer::Told;
+use cases::answer::{NOTHING, Values, and_values};
+use print::Printer;
+use std::num::{f32_to_bits_with_nan, f64_to_bits_with_nan};
+use tables::TapeRecord;
 use tables::tape::record_at;
-use tables::{ReadRecord, TapeRecord};
-use values::{FieldValue, LeafValue};
+use values::FieldValue;
 
-// A letter in place of a position, then numbers by their bits, or a string.
-fn number(letter: u8, bits: u64) -> Told {
-    answer::values(letter as usize, 1, bits, 0, 0)
+// The letter of a leaf, and its numbers by their bits or its string.
+#[derive(Clone, Copy)]
+pub struct Leaf {
+    pub letter: u8,
+    pub values: Values,
 }
 
-fn integer(letter: u8, bits: u64, negative: bool) -> Told {
-    answer::with_word(
-        number(letter, bits),
-        if negative { answer::NEGATIVE } else { 0 },
-    )
-}
-
-fn of_leaf(v: FieldValue) -> Told {
+// By the cases of the value and not by its words, which have the same bits: whether it is a NaN or below zero, and where a string stands,
+// is what the declared type says.
+fn values_of(v: FieldValue) -> Values {
     match v {
-        FieldValue::Bool(b) => number(b't', b as u64),
-        FieldValue::I8(z) => integer(b'b', bits::unsigned8(z) as u64, z < 0),
-        FieldValue::U8(n) => number(b'B', n as u64),
-        FieldValue::I16(z) => integer(b's', bits::unsigned16(z) as u64, z < 0),
-        FieldValue::U16(n) => number(b'u', n as u64),
-        FieldValue::I32(z) => integer(b'I', bits::unsigned32(z) as u64, z < 0),
-        FieldValue::U32(n) => number(b'i', n as u64),
-        FieldValue::I64(z) => integer(b'l', bits::unsigned64(z), z < 0),
-        FieldValue::F32(x) => number(b'f', bits::f32_bits(x) as u64),
-        FieldValue::F32Nan(n) => answer::with_word(number(b'f', n as u64), answer::NAN),
-        FieldValue::F64(x) => number(b'd', bits::f64_bits(x)),
-        FieldValue::F64Nan(n) => answer::with_word(number(b'd', n), answer::NAN),
+        FieldValue::Bool(b) => Values::number(b as u64),
+        FieldValue::I8(z) => Values::signed(z.cast_unsigned() as u64, z < 0),
+        FieldValue::U8(n) => Values::number(n as u64),
+        FieldValue::I16(z) => Values::signed(z.cast_unsigned() as u64, z < 0),
+        FieldValue::U16(n) => Values::number(n as u64),
+        FieldValue::I32(z) => Values::signed(z.cast_unsigned() as u64, z < 0),
+        FieldValue::U32(n) => Values::number(n as u64),
+        FieldValue::I64(z) => Values::signed(z.cast_unsigned(), z < 0),
+        FieldValue::F32(x) => Values::number(f32_to_bits_with_nan(x) as u64),
+        FieldValue::F32Nan(n) => Values::nan(n as u64),
+        FieldValue::F64(x) => Values::number(f64_to_bits_with_nan(x)),
+        FieldValue::F64Nan(n) => Values::nan(n),
         FieldValue::Decimal { scale, value } => {
-            answer::values(
-                b'D' as usize,
-                2,
-                scale as u64,
-                bits::unsigned32(value) as u64,
-                0,
-            )
+            Values::numbers(scale as u64, value.cast_unsigned() as u64)
         }
-        FieldValue::LongStr(v) => answer::octets_at(b'S' as usize, 0, 0, 0, v),
-        FieldValue::Bytes(v) => answer::octets_at(b'x' as usize, 0, 0, 0, v),
-        FieldValue::Timestamp(n) => number(b'T', n),
-        FieldValue::Void => answer::values(b'V' as usize, 0, 0, 0, 0),
+        FieldValue::LongStr(v) => Values::octets(v),
+        FieldValue::Bytes(v) => Values::octets(v),
+        FieldValue::Timestamp(n) => Values::number(n),
+        FieldValue::Void => NOTHING,
     }
 }
 
-// The value of a leaf; no case for a table, an array, and words that stand for no value.
-pub fn of_record(r: TapeRecord) -> Told {
-    match r.value() {
-        LeafValue::Value(v) => of_leaf(v),
-        LeafValue::None => answer::no_case(),
-    }
+// None for a table, an array, and words that stand for no value.
+pub fn leaf_of(r: TapeRecord) -> Option<Leaf> {
+    let v = r.value()?;
+    Some(Leaf {
+        letter: v.words().letter,
+        values: values_of(v),
+    })
 }
 
 // 2026-11-16 00:00:00 UTC and the second after it, of which a float of 32 bits may be both at once.
 const MIDNIGHT: u64 = 1_794_787_200;
 
 // Those of the two that a float is, in place of its bits.
-fn seconds(x: f32) -> Told {
+fn seconds_of(r: TapeRecord) -> Option<Leaf> {
+    let FieldValue::F32(x) = r.value()? else {
+        return None;
+    };
     let first = if x == 1794787200.0 { MIDNIGHT } else { 0 };
     let second = if x == 1794787201.0 { MIDNIGHT + 1 } else { 0 };
-    answer::values(b'f' as usize, 2, first, second, 0)
+    Some(Leaf {
+        letter: b'f',
+        values: Values::numbers(first, second),
+    })
 }
 
-fn seconds_of(v: LeafValue) -> Told {
-    match v {
-        LeafValue::None => answer::no_case(),
-        LeafValue::Value(value) => match value {
-            FieldValue::F32(x) => seconds(x),
-            _ => answer::no_case(),
-        },
-    }
+// The value of record 0.
+pub fn told(tape: &[u64]) -> Option<Leaf> {
+    leaf_of(record_at(tape, 0).ok()?)
 }
 
-// 70 the value of record 0, 71 the seconds that it is.
-pub fn told(op: u8, tape: &[u64]) -> Told {
-    match record_at(tape, 0) {
-        ReadRecord::Refused(_) => answer::no_case(),
-        ReadRecord::Value(r) => {
-            if op == 0x70 {
-                of_record(r)
-            } else {
-                seconds_of(r.value())
-            }
-        }
-    }
+// The seconds that it is.
+pub fn told_in_seconds(tape: &[u64]) -> Option<Leaf> {
+    seconds_of(record_at(tape, 0).ok()?)
 }
 
 // `=`, the letter, and what the value is.
-pub fn shown(rt: HostRuntime, t: Told, s: &[u8], out: &mut [u8], at: usize) -> usize {
-    if t.refusal != 0 {
-        return print::put(rt, out, at, b'?');
+pub fn show(printer: &mut Printer, leaf: Option<Leaf>, s: &[u8]) {
+    match leaf {
+        None => printer.put(b'?'),
+        Some(leaf) => {
+            printer.text(b"= ");
+            printer.put(leaf.letter);
+            and_values(printer, leaf.values, s);
+        }
     }
-    let start = print::text(rt, out, at, b"= ");
-    let letter = print::put(rt, out, start, (t.next % 256) as u8);
-    answer::and_rest(rt, t, s, out, letter)
 }

@@ -1,28 +1,31 @@
 -- Values, tables and the loop over entries, as the first pass sees them: from the equations and bounds of `tables`.
-use Prim.Native.Nat.{ℕ, zero, suc, ◌+◌, ◌-◌, ◌^◌, ◌≤◌, ◌<◌}
+use Prim.Native.Nat.{ℕ, zero, suc, ◌+◌, ◌-◌, ◌≤◌, ◌<◌}
 use mathlib.Core.Path.{◌≡◌, refl, ap, sym, ◌∙◌}
 use mathlib.Core.Bool.{Bool, true, false}
 use mathlib.Core.List.{List}
-use lib.ListN.{length, get_or}
+use lib.ListN.{length}
 use lib.Dec.{ltb, leb}
 use native.Mathlib.Omega.{arith}
 use native.Mathlib.Nat.{sub-zero, zero-add, add-zero}
 use Rattle.types.specs.Answer.{Refusal, Answer, given, refused, truncated, unsupported_field_type, too_deep, tape_full, and_then, need}
-use Rattle.types.specs.Octets.{number_at, uint_at}
+use Rattle.types.specs.Octets.{uint_at}
 use Rattle.types.specs.Strings.{span_at, long_str_at}
 use Rattle.types.specs.declared.Span.{Span}
 use Rattle.types.proofs.Tests.{leb_yes, leb_no, yes_leb, no_leb, decide}
 use Rattle.types.proofs.NumberLaws.{uint_at-given}
-use Rattle.types.proofs.RoundTrip.{span-here, span-past, number_past}
+use Rattle.types.proofs.StringLaws.{span_at-read}
+use Rattle.types.proofs.RoundTrip.{long-start, span-here, span-past, number_past}
 use Rattle.tables.specs.Letters as kind
 use Rattle.tables.specs.Letters.{Leaf, number, boolean, decimal, Kind, leaf, container, unknown, Letters, kind_of}
 use Rattle.tables.specs.Forest.{none, item, size, Words, words, LocatedTable}
 use Rattle.tables.specs.Reading.{Value, leaf_at, name_at, entries_at, container_at, payload_at, value_at, lone_value_at}
 use Rattle.tables.proofs.ReadingLaws.{name-move, below_at, below-is, value_after, value-refused, value-move, container-move, entries-end, entries-step, lone-entries, lone-cut}
-use Rattle.table_reader.specs.Counting.{counting, passed, one_record, more, size_of, with_count}
-use Rattle.table_reader.specs.AnswerOf.{answer_of_judged, Roomy}
-use Rattle.table_reader.specs.declared.judge.Judged.{Judged}
-use Rattle.table_reader.specs.declared.judge.Judged.TheVariants.{Fine, Refused}
+use Rattle.types.specs.Octets.{number_width}
+use Rattle.tables.specs.AnswerOf.{answer_of_kind}
+use Rattle.tables.specs.declared.Kind as code
+use Rattle.tables.specs.declared.Kind.TheVariants as variant
+use Rattle.table_reader.specs.Filling.{payload_of}
+use Rattle.table_reader.specs.Counting.{counting, one_record, more, size_of, with_count}
 
 -- Counting
 
@@ -60,22 +63,10 @@ more-more j k (refused r) = refl
 pub room-none : {A : Type 0} (room : ℕ) (a : Answer A) → room ≡ 0 → need (ltb 0 room) tape_full a ≡ refused tape_full
 room-none room a h = rw (leb_no 1 room (omega arith))
 
-pub room-some : {A : Type 0} (room : ℕ) (a : Answer A) → (room ≡ 0 → ⊥) → need (ltb 0 room) tape_full a ≡ a
-room-some room a h = decide (ltb 0 room) (λ y. rw y) (λ n. absurd (h (omega (arith, no_leb 1 room n))))
-
--- one record more can be counted where the room is not used up
-pub roomy : (room : ℕ) (j : Judged) → room < 2 ^ 64 → (room ≡ 0 → ⊥) → ((k n : ℕ) → answer_of_judged j ≡ given k n → k ≤ room - 1) → Roomy j
-roomy room (Fine k next) fits ne bound =
-    let pos : zero < room = decide (ltb 0 room) (λ y. yes_leb 1 room y) (λ n. absurd (ne (omega (arith, no_leb 1 room n)))) in
-    let b : k ≤ room - 1 = bound k next refl in
-    omega arith
-roomy room (Refused r) fits ne bound = tt
+pub room_some : {A : Type 0} (room : ℕ) (a : Answer A) → (room ≡ 0 → ⊥) → need (ltb 0 room) tape_full a ≡ a
+room_some room a h = decide (ltb 0 room) (λ y. rw y) (λ n. absurd (h (omega (arith, no_leb 1 room n))))
 
 -- A leaf of a fixed size
-
-octet-here : (s : List ℕ) (p : ℕ) → p < length s → uint_at 1 s p ≡ given (get_or s p 0) (p + 1)
-unfolding number_at
-octet-here s p h = uint_at-given 1 s p (omega arith) ∙ ap (λ i. given i (p + 1)) (zero-add (get_or s (p + 0) 0) ∙ ap (λ i. get_or s i 0) (add-zero p))
 
 number-span : (m k : ℕ) (s : List ℕ) (p : ℕ) → counting (λ _. m) (uint_at k s p) ≡ counting (λ _. m) (span_at k s p)
 unfolding counting
@@ -106,7 +97,7 @@ Fixed decimal n = 5 ≡ n
 Fixed kind.long_str n = ⊥
 Fixed kind.short_str n = ⊥
 
-leaf-fixed : (l : Leaf) (n : ℕ) (s : List ℕ) (p : ℕ) → Fixed l n → counting (λ _. 1) (leaf_at l s p) ≡ counting (λ _. 1) (span_at n s p)
+pub leaf-fixed : (l : Leaf) (n : ℕ) (s : List ℕ) (p : ℕ) → Fixed l n → counting (λ _. 1) (leaf_at l s p) ≡ counting (λ _. 1) (span_at n s p)
 unfolding leaf_at
 leaf-fixed (number k) n s p e = rw (← e) (counting-same 1 (λ i. words i 0) (uint_at k s p) ∙ number-span 1 k s p)
 leaf-fixed boolean n s p e = rw (← e) (counting-same 1 _ (uint_at 1 s p) ∙ number-span 1 1 s p)
@@ -114,7 +105,7 @@ leaf-fixed decimal n s p e = rw (← e) (decimal-span 1 s p)
 leaf-fixed kind.long_str n s p e = absurd e
 leaf-fixed kind.short_str n s p e = absurd e
 
-leaf-long : (s : List ℕ) (p : ℕ) → counting (λ _. 1) (leaf_at kind.long_str s p) ≡ counting (λ _. 1) (long_str_at s p)
+pub leaf-long : (s : List ℕ) (p : ℕ) → counting (λ _. 1) (leaf_at kind.long_str s p) ≡ counting (λ _. 1) (long_str_at s p)
 unfolding leaf_at
 leaf-long s p = counting-same 1 _ (long_str_at s p)
 
@@ -140,68 +131,95 @@ module _ (letters : Letters) where
     abbrev counted : Answer ℕ
     counted = counting size_of (value_at letters d s p room)
 
-    pub value-cut : length s ≤ p → counted ≡ refused truncated
+    pub value-cut : {r : Refusal} → refused r ≡ uint_at 1 s p → counted ≡ refused r
     unfolding counting
-    value-cut h = rw (value-refused letters d s p room truncated (number_past 1 s p (omega arith)))
+    value-cut {r} e = rw (value-refused letters d s p room r (sym e))
 
-    module _ (there : p < length s) where
-      value_in : (k : Kind) → kind_of letters (get_or s p 0) ≡ k → counted ≡ counting size_of (payload_at d (below_at letters d) (get_or s p 0) k s (p + 1) room)
-      value_in k e = ap (counting size_of) (value_after letters d s p room (get_or s p 0) (p + 1) (octet-here s p there)) ∙ (rw e)
+    -- where there is a letter c, and q is the position after it
+    module _ (c q : ℕ) (read : given c q ≡ uint_at 1 s p) where
+      value_in : (k : Kind) → k ≡ kind_of letters c → counted ≡ counting size_of (payload_at d (below_at letters d) c k s q room)
+      value_in k e = ap (counting size_of) (value_after letters d s p room c q (sym read)) ∙ (rw e)
 
-      pub value-unknown : unknown ≡ kind_of letters (get_or s p 0) → counted ≡ refused (unsupported_field_type (get_or s p 0))
+      pub value-unknown : unknown ≡ kind_of letters c → counted ≡ refused (unsupported_field_type c)
       unfolding payload_at counting
-      value-unknown e = value_in unknown (sym e)
+      value-unknown e = value_in unknown e
 
-      value-leaf : (l : Leaf) → leaf l ≡ kind_of letters (get_or s p 0) → counted ≡ one_record room (leaf_at l s (p + 1))
+      value-leaf : (l : Leaf) → leaf l ≡ kind_of letters c → counted ≡ one_record room (leaf_at l s q)
       unfolding payload_at
-      value-leaf l e = value_in (leaf l) (sym e) ∙ leaf-counted (get_or s p 0) (ltb 0 room) (leaf_at l s (p + 1))
+      value-leaf l e = value_in (leaf l) e ∙ leaf-counted c (ltb 0 room) (leaf_at l s q)
 
-      pub value-fixed : (l : Leaf) (n : ℕ) → Fixed l n → leaf l ≡ kind_of letters (get_or s p 0) → counted ≡ one_record room (span_at n s (p + 1))
-      value-fixed l n f e = value-leaf l e ∙ ap (need (ltb 0 room) tape_full) (leaf-fixed l n s (p + 1) f)
+      -- a leaf, as the code has its kind
+      pub value-payload : (k : code.Kind) → ((named : Bool) → k ≡ variant.Container named → ⊥) → answer_of_kind k ≡ kind_of letters c
+          → counted ≡ one_record room (payload_of (answer_of_kind k) s q)
+      value-payload (variant.Number width) h e = value-leaf (number (number_width width)) e
+      value-payload variant.Void h e = value-leaf (number 0) e
+      value-payload variant.Boolean h e = value-leaf boolean e
+      value-payload variant.Decimal h e = value-leaf decimal e
+      value-payload variant.LongStr h e = value-leaf kind.long_str e
+      value-payload (variant.Container named) h e = absurd (h named refl)
 
-      pub value-long : leaf kind.long_str ≡ kind_of letters (get_or s p 0) → counted ≡ one_record room (long_str_at s (p + 1))
-      value-long e = value-leaf kind.long_str e ∙ ap (need (ltb 0 room) tape_full) (leaf-long s (p + 1))
-
-      module _ (b : Bool) (e : container b ≡ kind_of letters (get_or s p 0)) where
+      module _ (b : Bool) (e : container b ≡ kind_of letters c) where
         pub value-deep : d ≡ 0 → counted ≡ refused too_deep
         unfolding payload_at counting
-        value-deep z = value_in (container b) (sym e) ∙ (rw (leb_no 1 d (omega arith)))
+        value-deep z = value_in (container b) e ∙ (rw (leb_no 1 d (omega arith)))
 
-        pub value-container : (d ≡ 0 → ⊥) → counted ≡ need (ltb 0 room) tape_full (more 1 (counting size (container_at (value_at letters (d - 1)) b s (p + 1) (room - 1))))
-        unfolding payload_at
-        value-container z =
-            let pos : zero < d = decide (ltb 0 d) (λ y. yes_leb 1 d y) (λ n. absurd (z (omega (arith, no_leb 1 d n)))) in
-            value_in (container b) (sym e) ∙ (rw (leb_yes 1 d pos) (container-counted (get_or s p 0) (ltb 0 room) (below_at letters d b s (p + 1) (room - 1))))
-            ∙ ap (λ (a : Answer LocatedTable). need (ltb 0 room) tape_full (more 1 (counting size a))) (below-is letters d b s (p + 1) (room - 1) pos)
+        module _ (deep : d ≡ 0 → ⊥) where
+          value-container : counted ≡ need (ltb 0 room) tape_full (more 1 (counting size (container_at (value_at letters (d - 1)) b s q (room - 1))))
+          unfolding payload_at
+          value-container =
+              let pos : zero < d = decide (ltb 0 d) (λ y. yes_leb 1 d y) (λ n. absurd (deep (omega (arith, no_leb 1 d n)))) in
+              value_in (container b) e ∙ (rw (leb_yes 1 d pos) (container-counted c (ltb 0 room) (below_at letters d b s q (room - 1))))
+              ∙ ap (λ (a : Answer LocatedTable). need (ltb 0 room) tape_full (more 1 (counting size a))) (below-is letters d b s q (room - 1) pos)
+
+          pub value-full : room ≡ 0 → counted ≡ refused tape_full
+          value-full z = value-container ∙ room-none room _ z
+
+          pub value-length-cut : {r : Refusal} → (room ≡ 0 → ⊥) → refused r ≡ long_str_at s q → counted ≡ refused r
+          unfolding container_at counting more
+          value-length-cut free h = value-container ∙ room_some room _ free ∙ (rw (← h))
+
+          pub value-entries : {v : Span} {end : ℕ} → (room ≡ 0 → ⊥) → given v end ≡ long_str_at s q
+              → counted ≡ more 1 (counting size (entries_at (value_at letters (d - 1)) b s v.start (v.start + v.len) (room - 1)))
+          unfolding container_at
+          value-entries {v} {end} free h = value-container ∙ room_some room _ free ∙ (rw (← h, (long-start s q v end (sym h)).1))
 
   -- A lone value
 
   module _ (s : List ℕ) (p room : ℕ) where
-    pub lone-counted : p < length s → counting size (entries_at (value_at letters 15) false s p (p + 1) room) ≡ counting size (lone_value_at letters s p room)
-    lone-counted h = ap (counting size) (lone-entries letters s p room h)
+    pub lone-counted : (v : Span) {q : ℕ} → given v q ≡ span_at 1 s p
+        → counting size (entries_at (value_at letters 15) false s v.start (v.start + v.len) room) ≡ counting size (lone_value_at letters s p room)
+    lone-counted v e = let r = span_at-read 1 s p e in rw (r.start, r.len) (ap (counting size) (lone-entries letters s p room (omega (arith, r.within))))
 
-    pub lone-truncated : length s ≤ p → refused truncated ≡ with_count (counting size (lone_value_at letters s p room))
+    pub lone-refused : {r : Refusal} → refused r ≡ span_at 1 s p → refused r ≡ with_count (counting size (lone_value_at letters s p room))
     unfolding counting
-    lone-truncated h = rw (lone-cut letters s p room h)
+    lone-refused {r} e =
+        decide (leb (p + 1) (length s))
+        (λ y. let g = e ∙ span-here 1 s p (yes_leb (p + 1) (length s) y) in let z : ◌≡◌ {A = ℕ} 0 1 = cc in absurd (omega arith))
+        (λ n.
+        let h = no_leb (p + 1) (length s) n in
+        let g = e ∙ span-past 1 s p h in
+        let same : r ≡ truncated = cc in
+        rw (lone-cut letters s p room (omega (arith, h)), same))
 
   -- A table or an array
 
   module _ (d : ℕ) (named : Bool) (s : List ℕ) (p room : ℕ) where
-    pub container-cut : (r : Refusal) → long_str_at s p ≡ refused r → counting size (container_at (value_at letters d) named s p room) ≡ refused r
+    pub container-cut : {r : Refusal} → refused r ≡ long_str_at s p → counting size (container_at (value_at letters d) named s p room) ≡ refused r
     unfolding container_at counting
-    container-cut r e = rw e
+    container-cut e = rw (← e)
 
-    pub container-in : (v : Span) (end : ℕ) → long_str_at s p ≡ given v end
-        → counting size (container_at (value_at letters d) named s p room) ≡ counting size (entries_at (value_at letters d) named s v.start end room)
-    unfolding container_at
-    container-in v end e = rw e
+    module _ (v : Span) (end : ℕ) (e : given v end ≡ long_str_at s p) where
+      pub container-in : counting size (container_at (value_at letters d) named s p room)
+          ≡ counting size (entries_at (value_at letters d) named s v.start (v.start + v.len) room)
+      unfolding container_at
+      container-in = rw (← e, (long-start s p v end (sym e)).1)
 
-    -- no more records than there is room for
-    pub container-room : (k n : ℕ) → counting size (container_at (value_at letters d) named s p room) ≡ given k n → k ≤ room
-    container-room k n e =
-        let a = counting-given size (container_at (value_at letters d) named s p room) k n e in
-        let m = container-move (value_at letters d) (value-move letters d) named s p room a.0 n a.1 in
-        omega (arith, m.fits, a.2)
+      -- no more records than there is room for
+      pub container-room : (k n : ℕ) → given k n ≡ counting size (entries_at (value_at letters d) named s v.start (v.start + v.len) room) → k ≤ room
+      container-room k n h =
+          let a = counting-given size (container_at (value_at letters d) named s p room) k n (container-in ∙ sym h) in
+          let m = container-move (value_at letters d) (value-move letters d) named s p room a.0 n a.1 in
+          omega (arith, m.fits, a.2)
 
   -- What the loop over entries keeps: the answer from its start on is the answer from here on, with the records counted so far
 
@@ -254,37 +272,34 @@ module _ (letters : Letters) where
         step-read name q v n a b =
             step ∙ (rw (a, b)) ∙ ap (more count) (size-item name v (entries_at (value_at letters d) named s n end (room - count - size_of v)))
 
-        pub kept-name : (r : Refusal) → passed (name_at named s pos) ≡ refused r → refused r ≡ whole
+        pub kept-name : {r : Refusal} → refused r ≡ name_at named s pos → refused r ≡ whole
         unfolding counting more
-        kept-name r e = sym (step ∙ (rw (counting-refused (λ _. 0) (name_at named s pos) r e)))
+        kept-name e = sym (step ∙ (rw (← e)))
 
-        module _ (j q : ℕ) (e : passed (name_at named s pos) ≡ given j q) where
-          pub kept-value : (r : Refusal) → counting size_of (value_at letters d s q (room - count)) ≡ refused r → refused r ≡ whole
+        module _ (name : Span) (q : ℕ) (e : given name q ≡ name_at named s pos) where
+          pub kept-value : {r : Refusal} → refused r ≡ counting size_of (value_at letters d s q (room - count)) → refused r ≡ whole
           unfolding counting more
-          kept-value r g =
-              let a = counting-given (λ _. 0) (name_at named s pos) j q e in
-              sym (step ∙ (rw (a.1, counting-refused size_of (value_at letters d s q (room - count)) r g)))
+          kept-value {r} g =
+              sym (step ∙ (rw (← e, counting-refused size_of (value_at letters d s q (room - count)) r (sym g))))
 
-          module _ (m n : ℕ) (g : counting size_of (value_at letters d s q (room - count)) ≡ given m n) where
+          module _ (m n : ℕ) (g : given m n ≡ counting size_of (value_at letters d s q (room - count))) where
             pub step-bounds : (pos < n) × (n ≤ length s) × (count + m ≤ room)
             step-bounds =
-                let a = counting-given (λ _. 0) (name_at named s pos) j q e in
-                let b = counting-given size_of (value_at letters d s q (room - count)) m n g in
-                let x = name-move named s pos a.0 q k.inside a.1 in
+                let b = counting-given size_of (value_at letters d s q (room - count)) m n (sym g) in
+                let x = name-move named s pos name q k.inside (sym e) in
                 let y = value-move letters d s q (room - count) b.0 n b.1 in
                 (omega (arith, x.0, y.far), y.inside, omega (arith, y.fits, b.2, k.fits))
 
             pub kept_step : Kept n (count + m)
             kept_step =
-                let a = counting-given (λ _. 0) (name_at named s pos) j q e in
-                let b = counting-given size_of (value_at letters d s q (room - count)) m n g in
+                let b = counting-given size_of (value_at letters d s q (room - count)) m n (sym g) in
                 let bounds = step-bounds in
                 let less : room - count - size_of b.0 ≡ room - (count + m) = omega (arith, b.2) in
                 record {
                   inside = bounds.1;
                   fits = bounds.2;
                   rest =
-                      step-read a.0 q b.0 n a.1 b.1
+                      step-read name q b.0 n (sym e) b.1
                       ∙ ap (λ i. more count (more (size_of b.0) (counting size (entries_at (value_at letters d) named s n end i)))) less
                       ∙ ap (λ i. more count (more i (left n (count + m)))) b.2
                       ∙ more-more count m (left n (count + m));

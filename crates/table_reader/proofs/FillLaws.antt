@@ -7,9 +7,7 @@ use native.Mathlib.Nat.{add-zero}
 use native.Mathlib.Omega.{arith}
 use lib.ListN.{length, get_or, length-append}
 use lib.Dec.{ltb}
-use types.Run.{OneOf, miss}
-use denote.Enum.Declared.{declared, tag_of}
-use Rattle.types.specs.Answer.{Answer, given, refused, Refusal, not_utf8, too_deep, tape_full, and_then}
+use Rattle.types.specs.Answer.{Answer, given, refused, not_utf8, too_deep, tape_full, and_then}
 use Rattle.types.specs.Memory.{splice}
 use Rattle.types.specs.Octets.{number_at, uint_at}
 use Rattle.types.specs.Strings.{octets_of, span_at, long_str_at, short_str_at}
@@ -17,25 +15,27 @@ use Rattle.types.specs.Records.{concat_map}
 use Rattle.types.specs.declared.Span.{Span}
 use Rattle.types.proofs.Splice.{splice-nil, splice-length, splice-after, splice-before}
 use Rattle.types.proofs.Tests.{leb_yes, yes_leb}
-use Rattle.types.proofs.Chain.{then-go, need-given}
+use Rattle.types.proofs.Chain.{then-go, need-given, given-value, given-next}
 use Rattle.types.proofs.NumberLaws.{uint_at-read}
 use Rattle.types.proofs.RoundTrip.{span-move, long-start}
 use Rattle.utf8.specs.Utf8.{utf8}
 use Rattle.tables.specs.Letters.{Kind, leaf, container, unknown, Letters, kind_of}
-use Rattle.tables.specs.Forest.{none, item, size, words, LocatedTable}
+use Rattle.tables.specs.Forest.{none, item, size, words, Words, LocatedTable}
 use Rattle.tables.specs.Reading.{Reader, Value, leaf_at, name_at, entries_at, container_at, payload_at, value_at}
 use Rattle.tables.specs.Tape.{Record, tape_records, flatten}
 use Rattle.tables.specs.Writing.{has_level}
-use Rattle.tables.specs.AnswerOf.{answer_of_kind}
+use Rattle.tables.specs.AnswerOf.{answer_of_kind, kind_or_unknown, payload_words}
+use Rattle.tables.specs.declared.PayloadWords.{PayloadWords}
+use Rattle.types.specs.declared.WireError.{WireError}
+use Rattle.types.specs.AnswerOf.{answer_of, answer_with}
+use Rattle.std.specs.Prelude.{Option, Some, None, IsSome, Result, Ok, Err, IsOk}
 use Rattle.tables.specs.declared.Kind as code
 use Rattle.tables.specs.declared.Kind.TheVariants as variant
-use Rattle.tables.specs.contracts.Kind.{enum}
 use Rattle.tables.proofs.ReadingLaws.{Moving, entries-end, entries-step, container-move, below_at, below-is, value-is, value-move}
 use Rattle.tables.proofs.Room.{container-room, value_room}
 use Rattle.tables.proofs.TapeLaws.{length-flatten, length-concat_map, concat_map-append}
-use Rattle.table_reader.specs.Filling.{Given, Fits, Holds, Stored, records_of, leaf_of, payload_of}
-use Rattle.table_reader.specs.declared.fill.Filled.{Filled}
-use Rattle.table_reader.specs.declared.leaf.Leaf.{Leaf}
+use Rattle.types.specs.declared.Cursor.{Cursor}
+use Rattle.table_reader.specs.Filling.{Filled, Given, Fits, Holds, Stored, records_of, payload_of}
 
 -- Records on the tape
 
@@ -45,7 +45,7 @@ words_of rs = concat_map tape_records.words rs
 words-length : (rs : List Record) → length (words_of rs) ≡ length rs * 6
 words-length rs = length-concat_map tape_records (λ r. refl) rs
 
-pub holds-nil : (k p : ℕ) (tape : List ℕ) → Holds [] k p tape tape (record { at = p; «record» = k })
+pub holds-nil : (k p : ℕ) (tape : List ℕ) → Holds [] k p tape tape (k, record { at = p })
 holds-nil k p tape = record { memory = sym (splice-nil (k * 6) tape); place = refl; count = sym (add-zero k) }
 
 module _ {rs : List Record} {k m : ℕ} {before mid : List ℕ} {r : Filled} (h : Holds rs k m before mid r) where
@@ -55,7 +55,7 @@ module _ {rs : List Record} {k m : ℕ} {before mid : List ℕ} {r : Filled} (h 
 
   -- more records, behind those that stand
   pub holds_after : (k + length rs) * 6 ≤ length before → {qs : List Record} {n : ℕ} {after : List ℕ} {q : Filled}
-      → Holds qs r.«record» n mid after q → Holds (rs ++ qs) k n before after q
+      → Holds qs r.0 n mid after q → Holds (rs ++ qs) k n before after q
   holds_after f {qs} {n} {after} {q} g =
       record {
         memory =
@@ -113,9 +113,9 @@ pub record Named (s : List ℕ) (p : ℕ) : Type 0 where
   pub within : p + 1 + get_or s p 0 ≤ length s
   pub is : name_at true s p ≡ given (record { start = p + 1; len = get_or s p 0 }) (p + 1 + get_or s p 0)
 
-pub name-there : (s : List ℕ) (p : ℕ) → Given (name_at true s p) → Named s p
+pub name_there : (s : List ℕ) (p : ℕ) → Given (name_at true s p) → Named s p
 unfolding name_at short_str_at
-name-there s p g =
+name_there s p g =
     let a = shown (name_at true s p) g in
     then-go (uint_at 1 s p) _ a.value a.next a.is
     (λ n q e1 h1.
@@ -159,24 +159,25 @@ module _ (value : Reader Value) (named : Bool) (s : List ℕ) (moving : Moving v
 
 -- a container is the entries in its body
 module _ (value : Reader Value) (named : Bool) (s : List ℕ) (p room : ℕ) (body : Span) (end : ℕ) (e : long_str_at s p ≡ given body end) where
-  container-entries : container_at value named s p room ≡ entries_at value named s body.start end room
+  container-entries : container_at value named s p room ≡ entries_at value named s body.start (body.start + body.len) room
   unfolding container_at
-  container-entries = rw e
+  container-entries = rw (e, (long-start s p body end e).1)
 
-  pub entries_fit : (k : ℕ) (tape : List ℕ) → Fits flatten (container_at value named s p room) k tape → Fits flatten (entries_at value named s body.start end room) k tape
+  pub entries_fit : (k : ℕ) (tape : List ℕ) → Fits flatten (container_at value named s p room) k tape → Fits flatten (entries_at value named s body.start (body.start + body.len) room) k tape
   entries_fit k tape f = rw container-entries at f
 
-  pub entries-stored : (k : ℕ) (tape after : List ℕ) (r : Filled) → Stored flatten (entries_at value named s body.start end room) k tape after r
+  pub entries-stored : (k : ℕ) (tape after : List ℕ) (r : Filled) → Stored flatten (entries_at value named s body.start (body.start + body.len) room) k tape after r
       → Stored flatten (container_at value named s p room) k tape after r
   entries-stored k tape after r h = rw container-entries h
 
-pub body-inside : (s : List ℕ) (p : ℕ) (body : Span) (end : ℕ) → long_str_at s p ≡ given body end → body.start ≤ length s
+pub body-inside : (s : List ℕ) (p : ℕ) (body : Span) (end : ℕ) → long_str_at s p ≡ given body end → body.start + body.len ≤ length s
 body-inside s p body end e = let l = long-start s p body end e in omega (arith, l.1, l.2)
 
-pub no-entries : (value : Reader Value) (named : Bool) (s : List ℕ) (p room : ℕ) {r : Refusal} (k : ℕ) (tape : List ℕ) → long_str_at s p ≡ refused r
-    → Fits flatten (container_at value named s p room) k tape → ⊥
+pub has_body : (value : Reader Value) (named : Bool) (s : List ℕ) (p room k : ℕ) (tape : List ℕ) (q : Result (Span × Cursor) WireError) → answer_of q ≡ long_str_at s p
+    → Fits flatten (container_at value named s p room) k tape → IsOk q
 unfolding container_at
-no-entries value named s p room k tape e f = rw e at f
+has_body value named s p room k tape (Ok x) e f = refl
+has_body value named s p room k tape (Err r) e f = absurd (rw (sym e) at f)
 
 -- Every record has an octet, so there is room for what is accepted with any room
 module _ (letters : Letters) (d : ℕ) (s : List ℕ) where
@@ -207,9 +208,9 @@ going letters d named s start end tape k h f = record { room = length s; inside 
 module _
     {letters : Letters} {d : ℕ} {named : Bool} {s : List ℕ} {start end : ℕ} {tape₀ : List ℕ} {k₀ : ℕ} {tape : List ℕ} {p k : ℕ}
     (go : Going letters d named s start end tape₀ k₀ tape p k) where
-  pub at-end : end ≤ p → Stored flatten (entries_at (value_at letters d) named s start end (length s)) k₀ tape₀ tape (record { at = p; «record» = k })
+  pub at-end : end ≤ p → Stored flatten (entries_at (value_at letters d) named s start end (length s)) k₀ tape₀ tape (k, record { at = p })
   unfolding flatten
-  at-end h = go.rest tape (record { at = p; «record» = k }) (rw (entries-end (value_at letters d) named s (value-move letters d) p end go.room h) (holds-nil k p tape))
+  at-end h = go.rest tape (k, record { at = p }) (rw (entries-end (value_at letters d) named s (value-move letters d) p end go.room h) (holds-nil k p tape))
 
   module _ (more : p < end) where
     accepted : Given (entries_at (value_at letters d) named s p end go.room)
@@ -244,14 +245,14 @@ module _
         unfolding own
         held = rw own_is at done
 
-        pub step_less : (k < r.«record») × (r.«record» ≤ length tape)
+        pub step_less : (k < r.0) × (r.0 ≤ length tape)
         unfolding own
         step_less = (omega (arith, held.count), omega (arith, held.count, own-fit))
 
-        rest-is : entries_at (value_at letters d) named s r.at end (go.room - suc (size here.own.value.beneath)) ≡ given here.rest.value here.rest.next
+        rest-is : entries_at (value_at letters d) named s r.1.at end (go.room - suc (size here.own.value.beneath)) ≡ given here.rest.value here.rest.next
         rest-is = rw held.place here.rest.is
 
-        pub step-again : Going letters d named s start end tape₀ k₀ tape' r.at r.«record»
+        pub step-again : Going letters d named s start end tape₀ k₀ tape' r.1.at r.0
         unfolding flatten own
         step-again =
             record {
@@ -262,29 +263,26 @@ module _
               same = holds-length held own-fit ∙ go.same;
             }
 
--- the tags of the kinds that are no containers, as the code tells them in the arm of these
-abbrev leaf_tags : List ℕ
-leaf_tags = 0 ∷ 1 ∷ 2 ∷ 3 ∷ 4 ∷ 5 ∷ 6 ∷ 7 ∷ 9 ∷ []
-
-pub no-container : (k : code.Kind) → OneOf leaf_tags (tag_of (declared enum) k) → (b : Bool) → answer_of_kind k ≡ container b → ⊥
+-- where the code has found no container, there is none
+pub no-container : (k : code.Kind) → ((named : Bool) → k ≡ variant.Container named → ⊥) → (b : Bool) → answer_of_kind k ≡ container b → ⊥
 no-container k o b e = let f : true ≡ false = sym (level k o) ∙ ap (λ x. has_level x 0) e in let z : ◌≡◌ {A = ℕ} 0 1 = cc in omega arith
   where
-    level : (k : code.Kind) → OneOf leaf_tags (tag_of (declared enum) k) → has_level (answer_of_kind k) 0 ≡ true
-    level variant.Number8 o = refl
-    level variant.Number16 o = refl
-    level variant.Number32 o = refl
-    level variant.Number64 o = refl
+    level : (k : code.Kind) → ((named : Bool) → k ≡ variant.Container named → ⊥) → has_level (answer_of_kind k) 0 ≡ true
+    level (variant.Number width) o = refl
     level variant.Void o = refl
     level variant.Boolean o = refl
     level variant.Decimal o = refl
     level variant.LongStr o = refl
-    level (variant.Container named) o = absurd (miss leaf_tags 8 tt o)
-    level variant.Unknown o = refl
+    level (variant.Container named) o = absurd (o named refl)
 
 -- A value that fits, at its letter
 
 pub record Ready (letters : Letters) (d : ℕ) (s : List ℕ) (at : ℕ) (name : Span) (k : ℕ) (tape : List ℕ) : Type 0 where
   pub fits : Fits (records_of name) (value_at letters d s at (length s)) k tape
+
+pub ready : (letters : Letters) (d : ℕ) (s : List ℕ) (at : ℕ) (name : Span) (k : ℕ) (tape : List ℕ) → Fits (records_of name) (value_at letters d s at (length s)) k tape
+    → Ready letters d s at name k tape
+ready letters d s at name k tape h = record { fits = h }
 
 -- with a container's letter
 record Body (letters : Letters) (d : ℕ) (s : List ℕ) (at : ℕ) (named : Bool) : Type 0 where
@@ -306,9 +304,9 @@ leaf-there d below c (leaf l) s p room v n h e =
     let o = need-given (ltb 0 room) _ _ v n e in
     then-go (leaf_at l s p) _ v n o.1 (λ x q e1 h1. record { payload = record { value = x; next = q; is = e1 }; is = sym h1 })
 
-module _ {letters : Letters} {d : ℕ} {s : List ℕ} {at : ℕ} {name : Span} {k : ℕ} {tape : List ℕ} (ready : Ready letters d s at name k tape) where
+module _ {letters : Letters} {d : ℕ} {s : List ℕ} {at : ℕ} {name : Span} {k : ℕ} {tape : List ℕ} (here : Ready letters d s at name k tape) where
   there : Shown (value_at letters d s at (length s))
-  there = shown (value_at letters d s at (length s)) (fits-given (records_of name) (value_at letters d s at (length s)) k tape ready.fits)
+  there = shown (value_at letters d s at (length s)) (fits-given (records_of name) (value_at letters d s at (length s)) k tape here.fits)
 
   at-letter : (at + 1 ≤ length s) × (payload_at d (below_at letters d) (get_or s at 0) (kind_of letters (get_or s at 0)) s (at + 1) (length s) ≡ given there.value there.next)
   at-letter =
@@ -348,7 +346,7 @@ module _ {letters : Letters} {d : ℕ} {s : List ℕ} {at : ℕ} {name : Span} {
 
     body-fit : (k + suc (length (flatten beneath))) * 6 ≤ length tape
     unfolding beneath
-    body-fit = rw at_body.is at ready.fits
+    body-fit = rw at_body.is at here.fits
 
     pub body-room : (k + 1) * 6 ≤ length tape
     body-room = omega (arith, body-fit)
@@ -362,19 +360,13 @@ module _ {letters : Letters} {d : ℕ} {s : List ℕ} {at : ℕ} {name : Span} {
       unfolding beneath
       filled = rw at_body.entries.is at done
 
-      pub body-count : k + 1 ≤ r.«record»
-      body-count = omega (arith, filled.count)
-
-      pub body_own : (k + 1) * 6 ≤ length mid
-      body_own = omega (arith, body-fit, holds-length filled (omega (arith, body-fit)))
-
-      pub body-stored : (after : List ℕ)
-          → after ≡ splice (k * 6) (tape_records.words (record { letter = get_or s at 0; name = name; payload = words 0 0; beneath = r.«record» - (k + 1) })) mid
+      pub body-stored : (x : Words) (after : List ℕ) → x ≡ words 0 0
+          → after ≡ splice (k * 6) (tape_records.words (record { letter = get_or s at 0; name = name; payload = x; beneath = r.0 - (k + 1) })) mid
           → Stored (records_of name) (value_at letters d s at (length s)) k tape after r
       unfolding beneath
-      body-stored after e =
-          let count : r.«record» - (k + 1) ≡ size beneath = omega (arith, filled.count, length-flatten beneath) in
-          rw at_body.is (holds-before _ after filled body-room (rw count at e))
+      body-stored x after z e =
+          let count : r.0 - (k + 1) ≡ size beneath = omega (arith, filled.count, length-flatten beneath) in
+          rw at_body.is (holds-before _ after filled body-room (rw (z, count) at e))
 
   -- a leaf: its own record alone
   module _ (kind : (b : Bool) → kind_of letters (get_or s at 0) ≡ container b → ⊥) where
@@ -384,14 +376,26 @@ module _ {letters : Letters} {d : ℕ} {s : List ℕ} {at : ℕ} {name : Span} {
     leaf-is : value_at letters d s at (length s) ≡ given (record { letter = get_or s at 0; payload = at_leaf.payload.value; beneath = none }) at_leaf.payload.next
     leaf-is = there.is ∙ at_leaf.is
 
-    pub leaf_room : (k + 1) * 6 ≤ length tape
-    unfolding flatten
-    leaf_room = rw leaf-is at ready.fits
-
-    pub leaf-stored : (q : Leaf) (after : List ℕ) → q ≡ leaf_of (at + 1) (payload_of (kind_of letters (get_or s at 0)) s (at + 1))
-        → after ≡ splice (k * 6) (tape_records.words (record { letter = get_or s at 0; name = name; payload = words q.first q.second; beneath = 0 })) tape
-        → Stored (records_of name) (value_at letters d s at (length s)) k tape after (record { at = q.next; «record» = k + 1 })
+    pub leaf-stored : (x : Words) (next : Cursor) (after : List ℕ) → given x next.at ≡ payload_of (kind_of letters (get_or s at 0)) s (at + 1)
+        → after ≡ splice (k * 6) (tape_records.words (record { letter = get_or s at 0; name = name; payload = x; beneath = 0 })) tape
+        → Stored (records_of name) (value_at letters d s at (length s)) k tape after (k + 1, next)
     unfolding flatten size
-    leaf-stored q after h e =
-        let l = rw at_leaf.payload.is at h in
-        rw leaf-is (record { memory = rw l at e; place = ap (λ x. x.next) l; count = refl })
+    leaf-stored x next after h e =
+        let same = h ∙ at_leaf.payload.is in
+        let payload : x ≡ at_leaf.payload.value = given-value _ _ _ _ same in
+        rw leaf-is
+        (record {
+          memory = e ∙ ap (λ y. splice (k * 6) (tape_records.words (record { letter = get_or s at 0; name = name; payload = y; beneath = 0 })) tape) payload;
+          place = given-next _ _ _ _ same;
+          count = refl;
+        })
+
+    pub has_payload : (q : Result (PayloadWords × Cursor) WireError) → answer_with payload_words q ≡ payload_of (kind_of letters (get_or s at 0)) s (at + 1) → IsOk q
+    has_payload (Ok x) h = refl
+    has_payload (Err r) h = let same = h ∙ at_leaf.payload.is in let z : ◌≡◌ {A = ℕ} 0 1 = cc in absurd (omega arith)
+
+  -- each letter that was judged is known
+  pub has_kind : (q : Option code.Kind) → kind_or_unknown q ≡ kind_of letters (get_or s at 0) → IsSome q
+  unfolding payload_at
+  has_kind (Some k) h = refl
+  has_kind None h = let e = rw (← h) at at-letter.1 in let z : ◌≡◌ {A = ℕ} 0 1 = cc in absurd (omega arith)

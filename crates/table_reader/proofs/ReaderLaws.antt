@@ -6,9 +6,14 @@ use Prim.Native.Nat.{ℕ, zero, suc, ◌+◌, ◌*◌, ◌≤◌, ◌<◌}
 use native.Mathlib.Omega.{arith}
 use borrow.Author.Tests.{eq-eqb, ne_eqb}
 use lib.ListN.{length}
+use Rattle.std.specs.Prelude.{Result, Ok, Err}
+use Rattle.std.specs.Result.{IsOk}
 use Rattle.types.specs.Answer.{Answer, Refusal, given, refused, and_then}
 use Rattle.types.specs.Memory.{splice, outcome}
 use Rattle.types.specs.Records.{concat_map}
+use Rattle.types.specs.Strings.{span_at}
+use Rattle.types.specs.declared.Span.{Span}
+use Rattle.types.proofs.RoundTrip.{span-here}
 use Rattle.types.proofs.Chain.{given-next, given-value}
 use Rattle.types.proofs.Splice.{splice-nil}
 use Rattle.types.proofs.Standing.{length-zero}
@@ -18,21 +23,24 @@ use Rattle.tables.specs.Reading.{Value, no_name, entries_at, container_at, value
 use Rattle.tables.specs.Tape.{tape_records, flatten, WithCount, room_of, fill_tape, as_tape, read_table, read_lone_value}
 use Rattle.tables.proofs.ReadingLaws.{table-move, value-move, lone-entries}
 use Rattle.tables.proofs.TapeLaws.{length-flatten}
-use Rattle.table_reader.specs.Counting.{counting, count_records}
-use Rattle.table_reader.specs.Filling.{Fits, Stored, Holds}
+use Rattle.table_reader.specs.Counting.{counting, with_count, count_records}
+use Rattle.types.specs.AnswerOf.{answer_of}
+use Rattle.types.specs.declared.Cursor.{Cursor}
+use Rattle.types.specs.declared.WireError.{WireError}
+use Rattle.table_reader.specs.AnswerOf.{count_alone, answer_of_records}
+use Rattle.table_reader.specs.Filling.{Filled, Fits, Stored, Holds}
 use Rattle.table_reader.specs.Ending.{ending_at, read_table_to}
-use Rattle.table_reader.specs.AnswerOf.{answer_of_records}
-use Rattle.table_reader.specs.declared.ReadRecords.{ReadRecords}
-use Rattle.table_reader.specs.declared.fill.Filled.{Filled}
 use Rattle.table_reader.proofs.FillLaws.{value-whole, container-whole}
 
-abbrev with_records : ℕ → WithCount Unit
-with_records k = record { value = tt; count = k }
+-- the count that the code answers
+pub records-counted : (r : Result (ℕ × Cursor) WireError) → answer_of_records r ≡ with_count (answer_of r)
+records-counted (Ok (k, next)) = refl
+records-counted (Err e) = refl
 
-pub count-given : (a : Answer LocatedTable) (k n : ℕ) → count_records a ≡ given (with_records k) n → (t : LocatedTable) × (a ≡ given t n) × (size t ≡ k)
+pub count-given : (a : Answer LocatedTable) (k n : ℕ) → count_records a ≡ given (count_alone k) n → (t : LocatedTable) × (a ≡ given t n) × (size t ≡ k)
 unfolding counting
 count-given (given t m) k n e =
-    (t, ap (given t) (given-next _ _ m n e), ap (λ (w : WithCount Unit). w.count) (given-value (with_records (size t)) (with_records k) m n e))
+    (t, ap (given t) (given-next _ _ m n e), ap (λ (w : WithCount Unit). w.count) (given-value (count_alone (size t)) (count_alone k) m n e))
 count-given (refused r) k n e = let z : ◌≡◌ {A = ℕ} 0 1 = cc in absurd (omega arith)
 
 pub count-refused : (a : Answer LocatedTable) (r : Refusal) → count_records a ≡ refused r → a ≡ refused r
@@ -42,7 +50,7 @@ count-refused (refused q) r e = let same : q ≡ r = cc in ap refused same
 
 -- the whole outcome of a reader, once its records stand on the tape
 filled : (a : Answer LocatedTable) (used : ℕ) (tape after : List ℕ) (t : LocatedTable) (k n : ℕ) → a ≡ given t n → size t ≡ k
-    → after ≡ splice (used * 6) (concat_map tape_records.words (flatten t)) tape → outcome (given (with_records k) n) after ≡ fill_tape used tape (as_tape a)
+    → after ≡ splice (used * 6) (concat_map tape_records.words (flatten t)) tape → outcome (given (count_alone k) n) after ≡ fill_tape used tape (as_tape a)
 filled a used tape after t k n e c m = rw (e, m, length-flatten t, c)
 
 not-filled : (a : Answer LocatedTable) (used : ℕ) (tape : List ℕ) (r : Refusal) → count_records a ≡ refused r → outcome (refused r) tape ≡ fill_tape used tape (as_tape a)
@@ -60,11 +68,6 @@ module _ (letters : Letters) (s : List ℕ) (at used : ℕ) (tape : List ℕ) wh
   abbrev value_read : Answer LocatedTable
   value_read = lone_value_at letters s at (room_of used tape)
 
-  -- what the first pass told of it, from its answer
-  pub judged-table : (free : ℕ) (r x : ReadRecords) → free ≡ room_of used tape → answer_of_records r ≡ count_records (table_at letters s at free) → r ≡ x
-      → count_records table_read ≡ answer_of_records x
-  judged-table free r x h e same = ap (λ (m : ℕ). count_records (table_at letters s at m)) (sym h) ∙ sym e ∙ ap answer_of_records same
-
   pub table-refused : (r : Refusal) → count_records table_read ≡ refused r → outcome (refused r) tape ≡ read_table letters s at used tape
   unfolding read_table
   table-refused r e = not-filled table_read used tape r e
@@ -73,8 +76,8 @@ module _ (letters : Letters) (s : List ℕ) (at used : ℕ) (tape : List ℕ) wh
   unfolding read_lone_value
   value-refused r e = not-filled value_read used tape r e
 
-  module _ (k n : ℕ) (e : count_records table_read ≡ given (with_records k) n) where
-    pub table_empty : k ≡ 0 → outcome (given (with_records k) n) tape ≡ read_table letters s at used tape
+  module _ (k n : ℕ) (e : count_records table_read ≡ given (count_alone k) n) where
+    pub table_empty : k ≡ 0 → outcome (given (count_alone k) n) tape ≡ read_table letters s at used tape
     unfolding read_table
     table_empty z =
         let a = count-given table_read k n e in
@@ -93,7 +96,7 @@ module _ (letters : Letters) (s : List ℕ) (at used : ℕ) (tape : List ℕ) wh
         rw (table-whole a.0 a.1, l, a.2) (space used k tape h (omega (arith, m.fits, a.2)))
 
     pub table_filled : (after : List ℕ) (r : Filled) → Stored flatten (container_at (value_at letters 15) true s at (length s)) used tape after r
-        → outcome (given (with_records k) n) after ≡ read_table letters s at used tape
+        → outcome (given (count_alone k) n) after ≡ read_table letters s at used tape
     unfolding read_table
     table_filled after r h =
         let a = count-given table_read k n e in
@@ -106,13 +109,13 @@ module _ (letters : Letters) (s : List ℕ) (at used : ℕ) (tape : List ℕ) wh
     unfolding read_table_to
     ended-refused r e = ap (ending_at end tape) (table-refused r e)
 
-    pub ended_here : (k n : ℕ) (after : List ℕ) → n ≡ end → outcome (given (with_records k) n) after ≡ read_table letters s at used tape
-        → outcome (given (with_records k) n) after ≡ read_table_to letters s at end used tape
+    pub ended_here : (k n : ℕ) (after : List ℕ) → n ≡ end → outcome (given (count_alone k) n) after ≡ read_table letters s at used tape
+        → outcome (given (count_alone k) n) after ≡ read_table_to letters s at end used tape
     unfolding read_table_to
     ended_here k n after h e = rw (← e, eq-eqb n end h)
 
-    pub ended-elsewhere : (k n : ℕ) → count_records table_read ≡ given (with_records k) n → (n ≡ end → ⊥)
-        → outcome (given (with_records k) n) tape ≡ read_table_to letters s at end used tape
+    pub ended-elsewhere : (k n : ℕ) → count_records table_read ≡ given (count_alone k) n → (n ≡ end → ⊥)
+        → outcome (given (count_alone k) n) tape ≡ read_table_to letters s at end used tape
     unfolding read_table_to read_table
     ended-elsewhere k n e h =
         let a = count-given table_read k n e in
@@ -127,7 +130,7 @@ module _ (letters : Letters) (s : List ℕ) (at used : ℕ) (tape : List ℕ) wh
       (v, ap (given v) same, value)
   lone-given (refused r) t n e = let z : ◌≡◌ {A = ℕ} 0 1 = cc in absurd (omega arith)
 
-  module _ (k n : ℕ) (e : count_records value_read ≡ given (with_records k) n) where
+  module _ (k n : ℕ) (e : count_records value_read ≡ given (count_alone k) n) where
     record Lone : Type 0 where
       table : LocatedTable
       reads : value_read ≡ given table n
@@ -155,10 +158,12 @@ module _ (letters : Letters) (s : List ℕ) (at used : ℕ) (tape : List ℕ) wh
           whole = lone-entries letters s at (length s) inside ∙ (rw (value-whole letters 15 s at (room_of used tape) v.0 n v.1) (ap (λ (t : LocatedTable). given t n) v.2));
         }
 
-    pub value_there : at < length s
-    value_there = lone.there
+    -- the octet of its letter
+    pub value-alone : (q : Result (Span × Cursor) WireError) → answer_of q ≡ span_at 1 s at → IsOk q
+    value-alone (Ok x) e = refl
+    value-alone (Err r) e = let g = e ∙ span-here 1 s at (omega (arith, lone.there)) in let z : ◌≡◌ {A = ℕ} 0 1 = cc in absurd (omega arith)
 
-    pub value-fits : (at ≤ length s) × Fits flatten (entries_at (value_at letters 15) false s at (at + 1) (length s)) used tape
+    pub value-fits : (at + 1 ≤ length s) × Fits flatten (entries_at (value_at letters 15) false s at (at + 1) (length s)) used tape
     value-fits =
         let a = lone in
         let l = length-flatten a.table in
@@ -166,7 +171,7 @@ module _ (letters : Letters) (s : List ℕ) (at used : ℕ) (tape : List ℕ) wh
         (omega (arith, a.there), rw a.whole room)
 
     pub value-filled : (after : List ℕ) (r : Filled) → Stored flatten (entries_at (value_at letters 15) false s at (at + 1) (length s)) used tape after r
-        → outcome (given (with_records k) n) after ≡ read_lone_value letters s at used tape
+        → outcome (given (count_alone k) n) after ≡ read_lone_value letters s at used tape
     unfolding read_lone_value
     value-filled after r h =
         let a = lone in

@@ -10,10 +10,6 @@ unfoldable pub counting : {A : Type 0} → (A → ℕ) → Answer A → Answer �
 counting f (given x n) = given (f x) n
 counting f (refused r) = refused r
 
--- what takes no record
-abbrev pub passed : {A : Type 0} → Answer A → Answer ℕ
-passed a = counting (λ _. 0) a
-
 -- what takes one, where there is room for it
 abbrev pub one_record : {A : Type 0} → ℕ → Answer A → Answer ℕ
 one_record room a = need (ltb 0 room) tape_full (counting (λ _. 1) a)

@@ -1,141 +1,73 @@
 // The first pass: how many records a table or a value takes and where it ends, or why it is refused. It writes nothing.
-ghost use Rattle.std.specs.Prelude.{◌≡◌, ◌≤◌, length};
-ghost use Rattle.types.specs.Strings.{span_at, long_str_at};
+// `levels` and `named` are no struct: values take `levels` alone, and `named` is asked for by entries alone.
+ghost use Rattle.std.specs.Prelude.{◌≡◌, ◌+◌, ◌≤◌, length};
+ghost use Rattle.types.specs.AnswerOf.{answer_of};
 ghost use Rattle.tables.specs.Letters.{errata};
 ghost use Rattle.tables.specs.Forest.{size};
 ghost use Rattle.tables.specs.Reading.{name_at, entries_at, value_at};
-ghost use Rattle.table_reader.specs.Counting.{counting, more, one_record, passed, size_of};
-ghost use Rattle.table_reader.specs.AnswerOf.{answer_of_judged, Roomy};
+ghost use Rattle.table_reader.specs.Counting.{counting, size_of};
 
-use tables::Kind;
+use crate::leaf::judge_leaf;
 use tables::letters::kind_of;
-use types::{Cursor, ReadSpan, WireError};
-
-// How many records, and the position after them.
-#[derive(Drop)]
-pub(crate) enum Judged {
-    Fine(usize, usize),
-    Refused(WireError),
-}
-
-// One record more, a table's or an array's own.
-fn one_more(r: Judged) -> Judged
-    requires { Roomy r }
-    ensures { answer_of_judged result ≡ more 1 (answer_of_judged r) }
-{
-    match r {
-        Judged::Fine(count, next) => Judged::Fine(count + 1, next),
-        Judged::Refused(e) => Judged::Refused(e),
-    }
-}
-
-// A leaf of n octets.
-fn judge_fixed(s: &[u8], at: usize, n: usize, room: usize) -> Judged
-    ensures { answer_of_judged result ≡ one_record room (span_at n s.now at) }
-{
-    if room == 0 {
-        return Judged::Refused(WireError::TapeFull);
-    }
-    match (Cursor { at }).span(s, n) {
-        ReadSpan::Value(_, next) => Judged::Fine(1, next.at),
-        ReadSpan::Refused(e) => Judged::Refused(e),
-    }
-}
-
-fn judge_long_str(s: &[u8], at: usize, room: usize) -> Judged
-    ensures { answer_of_judged result ≡ one_record room (long_str_at s.now at) }
-{
-    if room == 0 {
-        return Judged::Refused(WireError::TapeFull);
-    }
-    match (Cursor { at }).long_str(s) {
-        ReadSpan::Value(_, next) => Judged::Fine(1, next.at),
-        ReadSpan::Refused(e) => Judged::Refused(e),
-    }
-}
+use tables::{Kind, NO_NAME};
+use types::{Cursor, Read, Span, WireError};
 
 // The name of a table's entry; values of an array have none.
-fn judge_name(s: &[u8], at: usize, named: bool) -> Judged
-    ensures { answer_of_judged result ≡ passed (name_at named s.now at) }
+#[tactic(auto, unfolding(tables::specs::Reading::name_at))]
+fn judge_name(s: &[u8], at: Cursor, named: bool) -> Read<Span>
+    ensures { answer_of result ≡ name_at named s.now at.at }
 {
     if named {
-        match (Cursor { at }).short_str(s) {
-            ReadSpan::Value(_, next) => Judged::Fine(0, next.at),
-            ReadSpan::Refused(e) => Judged::Refused(e),
-        }
+        at.short_str(s)
     } else {
-        Judged::Fine(0, at)
+        Ok((NO_NAME, at))
     }
 }
 
 // A value that may have so many levels of tables and arrays, itself one of them, with room for so many records.
 #[cycle(judge_entries_judge_value)]
-fn judge_value(s: &[u8], at: usize, levels: usize, room: usize) -> Judged
-    ensures { answer_of_judged result ≡ counting size_of (value_at errata levels s.now at room) }
+fn judge_value(s: &[u8], at: Cursor, levels: usize, room: usize) -> Read<usize>
+    ensures { answer_of result ≡ counting size_of (value_at errata levels s.now at.at room) }
 {
-    if s.len() <= at {
-        return Judged::Refused(WireError::Truncated);
+    let (letter, next) = at.u8(s)?;
+    let Some(kind) = kind_of(letter) else {
+        return Err(WireError::UnsupportedFieldType(letter));
+    };
+    let Kind::Container(named) = kind else {
+        return judge_leaf(s, next, kind, room);
+    };
+    if levels == 0 {
+        return Err(WireError::TooDeep);
     }
-    let letter = s[at];
-    let next = at + 1;
-    match kind_of(letter) {
-        Kind::Number8 => judge_fixed(s, next, 1, room),
-        Kind::Number16 => judge_fixed(s, next, 2, room),
-        Kind::Number32 => judge_fixed(s, next, 4, room),
-        Kind::Number64 => judge_fixed(s, next, 8, room),
-        Kind::Void => judge_fixed(s, next, 0, room),
-        Kind::Boolean => judge_fixed(s, next, 1, room),
-        Kind::Decimal => judge_fixed(s, next, 5, room),
-        Kind::LongStr => judge_long_str(s, next, room),
-        Kind::Container(named) => {
-            if levels == 0 {
-                return Judged::Refused(WireError::TooDeep);
-            }
-            if room == 0 {
-                return Judged::Refused(WireError::TapeFull);
-            }
-            match (Cursor { at: next }).long_str(s) {
-                ReadSpan::Refused(e) => Judged::Refused(e),
-                ReadSpan::Value(body, after) => one_more(judge_entries(
-                    s,
-                    body.start,
-                    after.at,
-                    levels - 1,
-                    room - 1,
-                    named,
-                )),
-            }
-        }
-        Kind::Unknown => Judged::Refused(WireError::UnsupportedFieldType(letter)),
+    if room == 0 {
+        return Err(WireError::TapeFull);
     }
+    let (body, _) = next.long_str(s)?;
+    let (count, end) = judge_entries(s, body, levels - 1, room - 1, named)?;
+    Ok((count + 1, end))
 }
 
-// Entries until the position has reached the end, which the last one may run past.
+// Entries until the position has reached the body's end, which the last one may run past.
 #[cycle(judge_entries_judge_value)]
 pub(crate) fn judge_entries(
     s: &[u8],
-    start: usize,
-    end: usize,
+    body: Span,
     levels: usize,
     room: usize,
     named: bool,
-) -> Judged
-    requires { start ≤ length s.now }
-    ensures { answer_of_judged result ≡ counting size (entries_at (value_at errata levels) named s.now start end room) }
+) -> Read<usize>
+    requires { body.start + body.len ≤ length s.now }
+    ensures { answer_of result ≡ counting size (entries_at (value_at errata levels) named s.now body.start (body.start + body.len) room) }
 {
-    let mut here = start;
+    let end = body.start + body.len;
+    let mut here = Cursor { at: body.start };
     let mut count: usize = 0;
-    while here < end {
-        match judge_name(s, here, named) {
-            Judged::Refused(e) => return Judged::Refused(e),
-            Judged::Fine(_, next) => match judge_value(s, next, levels, room - count) {
-                Judged::Refused(e) => return Judged::Refused(e),
-                Judged::Fine(k, after) => {
-                    count += k;
-                    here = after;
-                }
-            },
-        }
+    // No iterator: what is read tells how far it moves, and each step may refuse.
+    while here.at < end {
+        let (_, next) = judge_name(s, here, named)?;
+        let (k, after) = judge_value(s, next, levels, room - count)?;
+        count += k;
+        here = after;
     }
-    Judged::Fine(count, here)
+    Ok((count, here))
 }

@@ -1,83 +1,69 @@
-// The payload of a leaf as its two words on the tape.
+// A leaf: in the first pass where its payload ends, in the second its two words on the tape. A table or an array is no leaf.
 ghost use Rattle.std.specs.Prelude.{◌≡◌};
-ghost use Rattle.tables.specs.Letters.{boolean, decimal};
-ghost use Rattle.tables.specs.Reading.{leaf_at};
-ghost use Rattle.tables.specs.AnswerOf.{answer_of_kind};
-ghost use Rattle.table_reader.specs.Filling.{leaf_words, leaf_of, payload_of};
+ghost use Rattle.types.specs.AnswerOf.{answer_of, answer_with};
+ghost use Rattle.tables.specs.AnswerOf.{answer_of_kind, payload_words};
+ghost use Rattle.table_reader.specs.Counting.{counting, one_record};
+ghost use Rattle.table_reader.specs.Filling.{payload_of};
 
-use tables::Kind;
-use types::{Cursor, ReadSpan, ReadU8, ReadU16, ReadU32, ReadU64};
+use tables::{Kind, PayloadWords};
+use types::{Cursor, Read, Span, WireError};
 
-// The words, and the position after the payload.
-#[derive(Drop)]
-pub(crate) struct Leaf {
-    pub(crate) first: u64,
-    pub(crate) second: u64,
-    pub(crate) next: usize,
-}
-
-fn leaf_words(first: u64, second: u64, next: usize) -> Leaf
-    ensures { result ≡ leaf_words first second next }
-{
-    Leaf {
-        first,
-        second,
-        next,
-    }
-}
-
-// A scale octet and a number.
-fn decimal_at(s: &[u8], at: usize) -> Leaf
-    ensures { result ≡ leaf_of at (leaf_at decimal s.now at) }
-{
-    match (Cursor { at }).u8(s) {
-        ReadU8::Value(scale, after) => match after.u32(s) {
-            ReadU32::Value(n, next) => leaf_words(scale as u64, n as u64, next.at),
-            ReadU32::Refused(_) => leaf_words(0, 0, at),
-        },
-        ReadU8::Refused(_) => leaf_words(0, 0, at),
-    }
-}
-
-// 0, or 1 for every other octet.
-fn boolean_at(s: &[u8], at: usize) -> Leaf
-    ensures { result ≡ leaf_of at (leaf_at boolean s.now at) }
-{
-    match (Cursor { at }).u8(s) {
-        ReadU8::Value(n, next) => leaf_words((n != 0) as u64, 0, next.at),
-        ReadU8::Refused(_) => leaf_words(0, 0, at),
-    }
-}
-
-// Zeros where there is no such payload.
-pub(crate) fn leaf_at(s: &[u8], at: usize, kind: Kind) -> Leaf
-    ensures { result ≡ leaf_of at (payload_of (answer_of_kind kind) s.now at) }
+// Where the octets of a string stand, or all octets of another payload.
+fn leaf_span(s: &[u8], at: Cursor, kind: Kind) -> Read<Span>
+    ensures { counting (λ _. 1) (answer_of result) ≡ counting (λ _. 1) (payload_of (answer_of_kind kind) s.now at.at) }
 {
     match kind {
-        Kind::Number8 => match (Cursor { at }).u8(s) {
-            ReadU8::Value(n, next) => leaf_words(n as u64, 0, next.at),
-            ReadU8::Refused(_) => leaf_words(0, 0, at),
-        },
-        Kind::Number16 => match (Cursor { at }).u16(s) {
-            ReadU16::Value(n, next) => leaf_words(n as u64, 0, next.at),
-            ReadU16::Refused(_) => leaf_words(0, 0, at),
-        },
-        Kind::Number32 => match (Cursor { at }).u32(s) {
-            ReadU32::Value(n, next) => leaf_words(n as u64, 0, next.at),
-            ReadU32::Refused(_) => leaf_words(0, 0, at),
-        },
-        Kind::Number64 => match (Cursor { at }).u64(s) {
-            ReadU64::Value(n, next) => leaf_words(n, 0, next.at),
-            ReadU64::Refused(_) => leaf_words(0, 0, at),
-        },
-        Kind::Boolean => boolean_at(s, at),
-        Kind::Decimal => decimal_at(s, at),
-        Kind::LongStr => match (Cursor { at }).long_str(s) {
-            ReadSpan::Value(v, next) => leaf_words(v.start as u64, v.len as u64, next.at),
-            ReadSpan::Refused(_) => leaf_words(0, 0, at),
-        },
-        Kind::Void => leaf_words(0, 0, at),
-        Kind::Container(_) => leaf_words(0, 0, at),
-        Kind::Unknown => leaf_words(0, 0, at),
+        Kind::Number(width) => at.span(s, width.octets()),
+        Kind::Void => at.span(s, 0),
+        Kind::Boolean => at.span(s, 1),
+        Kind::Decimal => at.span(s, 5),
+        Kind::LongStr => at.long_str(s),
+        Kind::Container(_) => Err(WireError::Truncated),
+    }
+}
+
+// One record, where there is room for it.
+#[tactic(auto, using(crate::proofs::CountingLaws::room_some), unfolding(crate::specs::Counting::counting))]
+pub(crate) fn judge_leaf(s: &[u8], at: Cursor, kind: Kind, room: usize) -> Read<usize>
+    ensures { answer_of result ≡ one_record room (payload_of (answer_of_kind kind) s.now at.at) }
+{
+    if room == 0 {
+        return Err(WireError::TapeFull);
+    }
+    let (_, next) = leaf_span(s, at, kind)?;
+    Ok((1, next))
+}
+
+#[tactic(auto, using(crate::proofs::LeafLaws::void_leaf), unfolding(tables::specs::Reading::leaf_at))]
+pub(crate) fn leaf_at(s: &[u8], at: Cursor, kind: Kind) -> Read<PayloadWords>
+    ensures { answer_with payload_words result ≡ payload_of (answer_of_kind kind) s.now at.at }
+{
+    match kind {
+        Kind::Number(width) => {
+            let (n, next) = at.number(s, width)?;
+            Ok((PayloadWords::number(n), next))
+        }
+        Kind::Boolean => {
+            let (n, next) = at.u8(s)?;
+            Ok((PayloadWords::number(n.min(1) as u64), next))
+        }
+        Kind::Decimal => {
+            let (scale, after) = at.u8(s)?;
+            let (n, next) = after.u32(s)?;
+            let payload = PayloadWords {
+                first: scale as u64,
+                second: n as u64,
+            };
+            Ok((payload, next))
+        }
+        Kind::LongStr => {
+            let (v, next) = at.long_str(s)?;
+            Ok((PayloadWords::from_span(v), next))
+        }
+        Kind::Void => {
+            let (_, next) = at.span(s, 0)?;
+            Ok((PayloadWords::number(0), next))
+        }
+        Kind::Container(_) => Err(WireError::Truncated),
     }
 }

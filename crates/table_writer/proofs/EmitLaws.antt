@@ -1,27 +1,29 @@
 -- What the second pass leaves in its output, piece by piece.
 use mathlib.Core.Path.{◌≡◌, refl, sym, ap, ◌∙◌}
-use mathlib.Core.Bool.{Bool, true, false, not, ◌&&◌}
+use mathlib.Core.Bool.{Bool, true, false, not}
 use mathlib.Core.List.{List, [], ◌∷◌, ◌++◌}
-use mathlib.Core.Option.{none}
-use Prim.Native.Nat.{ℕ, suc, ◌+◌, ◌-◌, ◌≤◌, ◌<◌}
+use Rattle.std.specs.Prelude.{Option, Some, None, IsSome, Result, Ok, Err, IsOk}
+use Rattle.std.specs.Option.{option_map}
+use Prim.Native.Nat.{ℕ, ◌+◌, ◌≤◌}
 use native.Mathlib.Nat.{add-zero}
 use native.Mathlib.Omega.{arith}
-use lib.ListN.{length, take, drop, length-append, length-drop}
-use lib.Seq.{length-take-le}
-use lib.Dec.{leb, ltb, eqb}
+use lib.ListN.{length, take, drop, length-append}
+use lib.Dec.{leb}
 use types.Run.{OneOf, miss}
 use denote.Enum.Declared.{tag_of}
-use Rattle.types.specs.Answer.{Answer, bad_tape, short_str_too_long}
+use Rattle.types.specs.Answer.{bad_tape, short_str_too_long}
 use Rattle.types.specs.Octets.{octets}
-use Rattle.types.specs.Strings.{octets_of, long_str, judge_short_str}
+use Rattle.types.specs.Strings.{octets_of, octets_in, long_str, judge_short_str}
 use Rattle.types.specs.Judgement.{test}
 use Rattle.types.specs.Memory.{splice, outcome}
 use Rattle.types.specs.declared.Span.{Span}
+use Rattle.types.specs.declared.WireError.{WireError}
 use Rattle.types.proofs.Chain.{test-none}
-use Rattle.types.proofs.Tests.{yes_leb}
+use Rattle.types.proofs.Tests.{yes_leb, no_leb}
 use Rattle.types.proofs.Splice.{splice-nil, splice-length, splice-after, splice-before}
 use Rattle.types.proofs.NumberLaws.{length-octets}
-use Rattle.writers.specs.Writers.{write_at, write_uint, write_octets}
+use Rattle.writers.specs.AnswerOf.{answer_of_written}
+use Rattle.writers.specs.Writers.{write_at}
 use Rattle.writers.proofs.WriterLaws.{write-given}
 use Rattle.tables.specs.declared.Kind.{Kind}
 use Rattle.tables.specs.declared.Kind.TheVariants as code
@@ -29,21 +31,19 @@ use Rattle.tables.specs.Forest.{Words, payload_meaning}
 use Rattle.tables.specs.Writing.{payload_octets, name_octets, in_pool, judge_name}
 use Rattle.tables.specs.AnswerOf.{answer_of_kind}
 use Rattle.tables.specs.contracts.Kind.{the_type}
-use Rattle.tables.proofs.JudgeLaws.{and-true}
-use Rattle.table_writer.specs.Emitting.{next_or, Emitted, leaf_payload}
+use Rattle.table_writer.proofs.SizeLaws.{span-length, octets-missing}
+use Rattle.table_writer.specs.Emitting.{Emitted, leaf_payload}
 
--- what a writer that has space leaves
-pub emitted : {xs : List ℕ} {at : ℕ} {out after : List ℕ} {w : Answer Unit} {r : ℕ} → at + length xs ≤ length out → outcome w after ≡ write_at none xs at out → r ≡ next_or at w
+-- a writer that has space refuses nothing, and leaves the octets
+pub is_written : (w : Result ℕ WireError) (xs : List ℕ) (at : ℕ) (out : List ℕ) {after : List ℕ} → at + length xs ≤ length out → outcome (answer_of_written w) after ≡ write_at None xs at out → IsOk w
+is_written (Ok m) xs at out h e = refl
+is_written (Err x) xs at out h e = let o = e ∙ write-given xs at out h in let z : ◌≡◌ {A = ℕ} 0 1 = cc in absurd (omega arith)
+
+pub emitted : (w : Result ℕ WireError) {xs : List ℕ} {at : ℕ} {out after : List ℕ} {r : ℕ} → at + length xs ≤ length out → outcome (answer_of_written w) after ≡ write_at None xs at out → w ≡ Ok r
     → Emitted xs at out after r
-emitted {xs} {at} {out} {after} {w} h e n =
-    let o : outcome w after ≡ outcome (Answer.given tt (at + length xs)) (splice at xs out) = e ∙ write-given xs at out h in
-    let a : w ≡ Answer.given tt (at + length xs) = cc in
-    record { next = n ∙ ap (next_or at) a; memory = cc }
-
-pub number-emitted : (k n : ℕ) {at : ℕ} {out after : List ℕ} {w : Answer Unit} {r : ℕ} → at + k ≤ length out → outcome w after ≡ write_uint k n at out → r ≡ next_or at w
-    → Emitted (octets k n) at out after r
-unfolding write_uint
-number-emitted k n {at} {out} h e q = emitted {xs = octets k n} {at = at} {out = out} (omega (arith, length-octets k n)) e q
+emitted w {xs} {at} {out} h e n =
+    let o = rw n at e ∙ write-given xs at out h in
+    record { next = cc; memory = cc }
 
 -- nothing
 pub none_emitted : (at : ℕ) (out : List ℕ) → Emitted [] at out out at
@@ -69,15 +69,11 @@ module _ {xs : List ℕ} {at m : ℕ} {a b : List ℕ} (h : at + length xs ≤ l
 -- a part of the pool
 module _ (pool : List ℕ) (start len : ℕ) (inside : start + len ≤ length pool) where
   pub length-span : length (take len (drop start pool)) ≡ len
-  length-span = length-take-le len (drop start pool) (omega (arith, length-drop start pool))
+  length-span = span-length pool (record { start = start; len = len }) inside
 
-  pub span-emitted : {at : ℕ} {out after : List ℕ} {w : Answer Unit} {r : ℕ} → at + len ≤ length out
-      → outcome w after ≡ write_octets (take (start + len - start) (drop start pool)) at out → r ≡ next_or at w
-      → Emitted (take len (drop start pool)) at out after r
-  unfolding write_octets
-  span-emitted {at} {out} {after} {w} {r} h e n =
-      let l : start + len - start ≡ len = omega arith in
-      emitted {xs = take len (drop start pool)} {at = at} {out = out} (omega (arith, length-span)) (rw l at e) n
+pub is_found : (pool : List ℕ) (v : Span) → v.start + v.len ≤ length pool → {A : Type 0} (f : A → List ℕ) (q : Option A) → option_map f q ≡ octets_in pool v → IsSome q
+is_found pool v inside f (Some x) e = refl
+is_found pool v inside f None e = absurd (omega (arith, no_leb (v.start + v.len) (length pool) (octets-missing pool v e), inside))
 
 -- a name that passed
 pub record NameFits (pool : List ℕ) (name : Span) : Type 0 where
@@ -85,7 +81,7 @@ pub record NameFits (pool : List ℕ) (name : Span) : Type 0 where
   pub short : name.len ≤ 255
   pub long : length (octets_of pool name) ≡ name.len
 
-pub name-fits : (named : Bool) (pool : List ℕ) (i : ℕ) (name : Span) → not named ≡ false → judge_name named pool i name ≡ none → NameFits pool name
+pub name-fits : (named : Bool) (pool : List ℕ) (i : ℕ) (name : Span) → not named ≡ false → judge_name named pool i name ≡ None → NameFits pool name
 name-fits true pool i name y e =
     let xs = octets_of pool name in
     let a = test-none (in_pool pool name.start name.len) (bad_tape i) (judge_short_str xs) e in
@@ -110,26 +106,16 @@ module _ (pool : List ℕ) (name : Span) (fits : NameFits pool name) where
   name-emitted true y h p q = rw fits.long (emitted-after (omega arith) p q)
   name-emitted false y h p q = let z : ◌≡◌ {A = ℕ} 0 1 = cc in absurd (omega arith)
 
--- payload words that passed
-pub first_below : (first limit second i : ℕ) → test (ltb first limit && eqb second 0) (bad_tape i) none ≡ none → first < limit
-first_below first limit second i e =
-    yes_leb (suc first) limit (and-true (ltb first limit) (eqb second 0) (test-none (ltb first limit && eqb second 0) (bad_tape i) none e).0).0
-
-pub both_below : (first limit second limit₂ i : ℕ) → test (ltb first limit && ltb second limit₂) (bad_tape i) none ≡ none → (first < limit) × (second < limit₂)
-both_below first limit second limit₂ i e =
-    let a = and-true (ltb first limit) (ltb second limit₂) (test-none (ltb first limit && ltb second limit₂) (bad_tape i) none e).0 in
-    (yes_leb (suc first) limit a.0, yes_leb (suc second) limit₂ a.1)
-
 -- a long string that passed: its length, and then its octets
 pub record LongFits (pool : List ℕ) (start len at : ℕ) (out : List ℕ) : Type 0 where
   pub inside : start + len ≤ length pool
   pub short : len ≤ 4294967295
   pub space : at + 4 + len ≤ length out
 
-pub long-fits : (pool : List ℕ) (start len at : ℕ) (out : List ℕ) (i : ℕ) → test (in_pool pool start len) (bad_tape i) none ≡ none → length (long_str (take len (drop start pool))) ≤ 4294967295 + 4
+pub long-fits : (pool : List ℕ) (start len at : ℕ) (out : List ℕ) (i : ℕ) → test (in_pool pool start len) (bad_tape i) None ≡ None → length (long_str (take len (drop start pool))) ≤ 4294967295 + 4
     → at + length (long_str (take len (drop start pool))) ≤ length out → LongFits pool start len at out
 long-fits pool start len at out i e l s =
-    let inside : start + len ≤ length pool = yes_leb (start + len) (length pool) (test-none (in_pool pool start len) (bad_tape i) none e).0 in
+    let inside : start + len ≤ length pool = yes_leb (start + len) (length pool) (test-none (in_pool pool start len) (bad_tape i) None e).0 in
     let n = length-span pool start len inside in
     record { inside = inside; short = omega arith; space = omega arith }
 
@@ -138,11 +124,10 @@ pub long-emitted : {pool : List ℕ} {start len at m r : ℕ} {out b c : List �
 long-emitted {pool} {start} {len} f p q = rw (length-span pool start len f.inside) (emitted-after (omega (arith, f.space)) p q)
 
 -- octets that stand already, and then their length before them
-pub long-before : (n : ℕ) {ys : List ℕ} {at r : ℕ} {a b c : List ℕ} {w : Answer Unit} → n ≡ length ys → at + 4 + length ys ≤ length a → Emitted ys (at + 4) a b r
-    → outcome w c ≡ write_uint 4 n at b → Emitted (long_str ys) at a c r
-long-before n {ys} {at} {r} {a} {b} {c} {w} e h p o =
+pub long-before : (n : ℕ) {ys : List ℕ} {at m r : ℕ} {a b c : List ℕ} → n ≡ length ys → at + 4 + length ys ≤ length a → Emitted ys (at + 4) a b r → Emitted (octets 4 n) at b c m
+    → Emitted (long_str ys) at a c r
+long-before n {ys} {at} {m} {r} {a} {b} {c} e h p q =
     let l = length-octets 4 (length ys) in
-    let q : Emitted (octets 4 n) at b c (next_or at w) = number-emitted 4 n (omega (arith, emitted-length h p)) o refl in
     let same : at + 4 ≡ at + length (octets 4 (length ys)) = omega arith in
     record {
       next = omega (arith, p.next, length-append (octets 4 (length ys)) ys);
@@ -154,28 +139,20 @@ long-before n {ys} {at} {r} {a} {b} {c} {w} e h p o =
     }
 
 -- kinds with no octets of their own
-pub no_payload : (k : Kind) (pool : List ℕ) (x : Words) → OneOf (4 ∷ 8 ∷ 9 ∷ []) (tag_of the_type k) → leaf_payload (answer_of_kind k) pool x ≡ []
-no_payload code.Number8 pool x o = absurd (miss (4 ∷ 8 ∷ 9 ∷ []) 0 tt o)
-no_payload code.Number16 pool x o = absurd (miss (4 ∷ 8 ∷ 9 ∷ []) 1 tt o)
-no_payload code.Number32 pool x o = absurd (miss (4 ∷ 8 ∷ 9 ∷ []) 2 tt o)
-no_payload code.Number64 pool x o = absurd (miss (4 ∷ 8 ∷ 9 ∷ []) 3 tt o)
+pub no_payload : (k : Kind) (pool : List ℕ) (x : Words) → OneOf (1 ∷ 5 ∷ []) (tag_of the_type k) → leaf_payload (answer_of_kind k) pool x ≡ []
+no_payload (code.Number width) pool x o = absurd (miss (1 ∷ 5 ∷ []) 0 tt o)
 no_payload code.Void pool x o = refl
-no_payload code.Boolean pool x o = absurd (miss (4 ∷ 8 ∷ 9 ∷ []) 5 tt o)
-no_payload code.Decimal pool x o = absurd (miss (4 ∷ 8 ∷ 9 ∷ []) 6 tt o)
-no_payload code.LongStr pool x o = absurd (miss (4 ∷ 8 ∷ 9 ∷ []) 7 tt o)
+no_payload code.Boolean pool x o = absurd (miss (1 ∷ 5 ∷ []) 2 tt o)
+no_payload code.Decimal pool x o = absurd (miss (1 ∷ 5 ∷ []) 3 tt o)
+no_payload code.LongStr pool x o = absurd (miss (1 ∷ 5 ∷ []) 4 tt o)
 no_payload (code.Container named) pool x o = refl
-no_payload code.Unknown pool x o = refl
 
 -- kinds whose octets are all their own
-pub leaf-payload : (k : Kind) (pool : List ℕ) (x : Words) (xs : List ℕ) → OneOf (0 ∷ 1 ∷ 2 ∷ 3 ∷ 4 ∷ 5 ∷ 6 ∷ 7 ∷ 9 ∷ []) (tag_of the_type k)
+pub leaf-payload : (k : Kind) (pool : List ℕ) (x : Words) (xs : List ℕ) → ((named : Bool) → k ≡ code.Container named → ⊥)
     → payload_octets (answer_of_kind k) (payload_meaning (answer_of_kind k) pool x) xs ≡ leaf_payload (answer_of_kind k) pool x
-leaf-payload code.Number8 pool x xs o = refl
-leaf-payload code.Number16 pool x xs o = refl
-leaf-payload code.Number32 pool x xs o = refl
-leaf-payload code.Number64 pool x xs o = refl
+leaf-payload (code.Number width) pool x xs o = refl
 leaf-payload code.Void pool x xs o = refl
 leaf-payload code.Boolean pool x xs o = refl
 leaf-payload code.Decimal pool x xs o = refl
 leaf-payload code.LongStr pool x xs o = refl
-leaf-payload (code.Container named) pool x xs o = absurd (miss (0 ∷ 1 ∷ 2 ∷ 3 ∷ 4 ∷ 5 ∷ 6 ∷ 7 ∷ 9 ∷ []) 8 tt o)
-leaf-payload code.Unknown pool x xs o = refl
+leaf-payload (code.Container named) pool x xs o = absurd (o named refl)

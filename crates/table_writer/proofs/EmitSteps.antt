@@ -3,34 +3,29 @@ use mathlib.Core.Path.{◌≡◌, refl, sym, ap, ◌∙◌}
 use mathlib.Core.Bool.{Bool, true, false, ◌&&◌}
 use mathlib.Core.Logic.{inl}
 use mathlib.Core.List.{List, [], ◌∷◌, ◌++◌, append_assoc, append-nil}
-use mathlib.Core.Option.{Option}
+use Rattle.std.specs.Prelude.{Option, Some, None, IsSome, Result, Ok, Err, IsOk}
 use Prim.Native.Nat.{ℕ, ◌+◌, ◌-◌, ◌*◌, ◌^◌, ◌≤◌, ◌<◌}
 use native.Mathlib.Omega.{arith}
 use lib.ListN.{length, take, drop, length-append}
 use lib.Dec.{ltb, eqb}
-use types.Run.{OneOf}
-use denote.Enum.Declared.{tag_of}
-use Rattle.types.specs.Answer.{Refusal, Answer, bad_tape}
+use Rattle.types.specs.Answer.{Refusal, bad_tape}
 use Rattle.types.specs.Octets.{octets}
 use Rattle.types.specs.Strings.{octets_of, long_str, judge_short_str}
 use Rattle.types.specs.Judgement.{or_else, test}
-use Rattle.types.specs.Memory.{outcome}
 use Rattle.types.specs.declared.Span.{Span}
 use Rattle.types.specs.declared.WireError.{WireError}
 use Rattle.types.proofs.Chain.{or_else-none}
 use Rattle.types.proofs.Tests.{yes_leb}
-use Rattle.writers.specs.Writers.{write_uint}
+use Rattle.types.specs.AnswerOf.{or_refusal}
 use Rattle.tables.specs.Letters as kind
 use Rattle.tables.specs.Letters.{number, boolean, decimal, leaf, container, unknown, Letters, kind_of, is_table}
 use Rattle.tables.specs.Forest.{Words, payload_meaning, meaning_of}
 use Rattle.tables.specs.Tape.{Record, record_at, unflatten}
 use Rattle.tables.specs.Writing.{payload_octets, name_octets, body, in_pool, judge_name, judge_payload, judge_record, judge_records}
-use Rattle.tables.specs.AnswerOf.{answer_of_kind, record_of, answer_of_record}
+use Rattle.tables.specs.AnswerOf.{answer_of_kind, kind_or_unknown, record_of}
 use Rattle.tables.specs.declared.Kind.{Kind}
-use Rattle.tables.specs.declared.ReadRecord.{ReadRecord}
-use Rattle.tables.specs.declared.ReadRecord.TheVariants as code-record
+use Rattle.tables.specs.declared.Kind.TheVariants as code
 use Rattle.tables.specs.declared.TapeRecord.{TapeRecord}
-use Rattle.tables.specs.contracts.Kind.{the_type}
 use Rattle.tables.proofs.TapeLaws.{forest_step}
 use Rattle.tables.proofs.JudgeLaws.{Passed, passed, judge-step, count-le, letter-octet, Octets}
 use Rattle.table_writer.specs.Sizes.{records_from, records_octets, first_octets, judge_first}
@@ -39,37 +34,30 @@ use Rattle.table_writer.proofs.RecordLaws.{nth_record, records-none, length-reco
 use Rattle.table_writer.proofs.EmitLaws.{none_emitted, emitted-length, emitted-after, long-before, leaf-payload}
 
 -- the number of a record stands only in its refusals
-test-anywhere : (b : Bool) (i : ℕ) (o : Option Refusal) → test b (bad_tape i) o ≡ Option.none → test b (bad_tape 0) o ≡ Option.none
+test-anywhere : (b : Bool) (i : ℕ) (o : Option Refusal) → test b (bad_tape i) o ≡ None → test b (bad_tape 0) o ≡ None
 test-anywhere true i o e = e
 test-anywhere false i o e = let z : ◌≡◌ {A = ℕ} 0 1 = cc in absurd (omega arith)
 
-pub name-anywhere : (named : Bool) (pool : List ℕ) (i : ℕ) (n : Span) → judge_name named pool i n ≡ Option.none → judge_name named pool 0 n ≡ Option.none
+pub name-anywhere : (named : Bool) (pool : List ℕ) (i : ℕ) (n : Span) → judge_name named pool i n ≡ None → judge_name named pool 0 n ≡ None
 name-anywhere true pool i n e = test-anywhere (in_pool pool n.start n.len) i (judge_short_str (octets_of pool n)) e
-name-anywhere false pool i n e = test-anywhere (eqb n.start 0 && eqb n.len 0) i Option.none e
+name-anywhere false pool i n e = test-anywhere (eqb n.start 0 && eqb n.len 0) i None e
 
-pub payload-anywhere : (k : kind.Kind) (pool : List ℕ) (i : ℕ) (x : Words) → judge_payload k pool i x ≡ Option.none → judge_payload k pool 0 x ≡ Option.none
-payload-anywhere (leaf (number k)) pool i x e = test-anywhere (ltb x.first (256 ^ k) && eqb x.second 0) i Option.none e
-payload-anywhere (leaf boolean) pool i x e = test-anywhere (ltb x.first 2 && eqb x.second 0) i Option.none e
-payload-anywhere (leaf decimal) pool i x e = test-anywhere (ltb x.first 256 && ltb x.second (256 ^ 4)) i Option.none e
-payload-anywhere (leaf kind.long_str) pool i x e = test-anywhere (in_pool pool x.first x.second) i Option.none e
+pub payload-anywhere : (k : kind.Kind) (pool : List ℕ) (i : ℕ) (x : Words) → judge_payload k pool i x ≡ None → judge_payload k pool 0 x ≡ None
+payload-anywhere (leaf (number k)) pool i x e = test-anywhere (ltb x.first (256 ^ k) && eqb x.second 0) i None e
+payload-anywhere (leaf boolean) pool i x e = test-anywhere (ltb x.first 2 && eqb x.second 0) i None e
+payload-anywhere (leaf decimal) pool i x e = test-anywhere (ltb x.first 256 && ltb x.second (256 ^ 4)) i None e
+payload-anywhere (leaf kind.long_str) pool i x e = test-anywhere (in_pool pool x.first x.second) i None e
 payload-anywhere (leaf kind.short_str) pool i x e = name-anywhere true pool i (record { start = x.first; len = x.second }) e
-payload-anywhere (container named) pool i x e = test-anywhere (eqb x.first 0 && eqb x.second 0) i Option.none e
+payload-anywhere (container named) pool i x e = test-anywhere (eqb x.first 0 && eqb x.second 0) i None e
 payload-anywhere unknown pool i x e = let z : ◌≡◌ {A = ℕ} 0 1 = cc in absurd (omega arith)
 
--- the record that was read
-pub was_read : (tape : List ℕ) (i end : ℕ) (q : ReadRecord) (r : TapeRecord) → i + 1 ≤ end → end * 6 ≤ length tape → answer_of_record q ≡ record_at tape i → q ≡ code-record.Value r
-    → record_of r ≡ nth_record tape i
-was_read tape i end q r h o e v =
-    let a : answer_of_record q ≡ inl (nth_record tape i) = e ∙ record-here tape end o i (omega arith) in
-    let b : answer_of_record q ≡ inl (record_of r) = ap answer_of_record v in
-    cc
+-- the record that is read
+pub is_there : (tape : List ℕ) (i end : ℕ) (q : Result TapeRecord WireError) → i + 1 ≤ end → end * 6 ≤ length tape → or_refusal record_of q ≡ record_at tape i → IsOk q
+is_there tape i end (Ok r) h o e = refl
+is_there tape i end (Err x) h o e = let a = e ∙ record-here tape end o i (omega arith) in let z : ◌≡◌ {A = ℕ} 0 1 = cc in absurd (omega arith)
 
-pub not-refused : (tape : List ℕ) (i end : ℕ) (q : ReadRecord) (r : WireError) → i + 1 ≤ end → end * 6 ≤ length tape → answer_of_record q ≡ record_at tape i → q ≡ code-record.Refused r → ⊥
-not-refused tape i end q r h o e v =
-    let a : answer_of_record q ≡ inl (nth_record tape i) = e ∙ record-here tape end o i (omega arith) in
-    let b : answer_of_record q ≡ answer_of_record (code-record.Refused r) = ap answer_of_record v in
-    let z : ◌≡◌ {A = ℕ} 0 1 = cc in
-    omega arith
+pub was_read : (tape : List ℕ) (i end : ℕ) (r : Record) → i + 1 ≤ end → end * 6 ≤ length tape → inl r ≡ record_at tape i → r ≡ nth_record tape i
+was_read tape i end r h o e = let a = e ∙ record-here tape end o i (omega arith) in cc
 
 -- the records beneath record i
 abbrev pub beneath_of : List ℕ → ℕ → Record → List Record
@@ -101,16 +89,16 @@ module _ (letters : Letters) (named : Bool) (pool : List ℕ) where
   octets-none = refl
 
   -- the judgement of a record with those beneath it, taken apart
-  first-passed : (d i : ℕ) (r : Record) (rs : List Record) → judge_first letters named pool d i (r ∷ rs) ≡ Option.none
-      → Passed letters d named pool i r (length rs) × (judge_records letters (d - 1) (is_table (kind_of letters r.letter)) pool (i + 1) (take r.beneath rs) ≡ Option.none)
+  first-passed : (d i : ℕ) (r : Record) (rs : List Record) → judge_first letters named pool d i (r ∷ rs) ≡ None
+      → Passed letters d named pool i r (length rs) × (judge_records letters (d - 1) (is_table (kind_of letters r.letter)) pool (i + 1) (take r.beneath rs) ≡ None)
   unfolding judge_first
   first-passed d i r rs e =
       let a = or_else-none (judge_record letters d named pool i r (length rs)) (judge_records letters (d - 1) (is_table (kind_of letters r.letter)) pool (i + 1) (take r.beneath rs)) e in
       (passed letters d named pool i r (length rs) a.0, a.1)
 
   -- and of records
-  all-passed : (d i : ℕ) (r : Record) (rs : List Record) → judge_records letters d named pool i (r ∷ rs) ≡ Option.none
-      → (judge_first letters named pool d i (r ∷ rs) ≡ Option.none) × (judge_records letters d named pool (i + 1 + r.beneath) (drop r.beneath rs) ≡ Option.none)
+  all-passed : (d i : ℕ) (r : Record) (rs : List Record) → judge_records letters d named pool i (r ∷ rs) ≡ None
+      → (judge_first letters named pool d i (r ∷ rs) ≡ None) × (judge_records letters d named pool (i + 1 + r.beneath) (drop r.beneath rs) ≡ None)
   unfolding judge_first
   all-passed d i r rs e =
       let o = judge_records letters (d - 1) (is_table (kind_of letters r.letter)) pool (i + 1) (take r.beneath rs) in
@@ -123,7 +111,7 @@ module _ (letters : Letters) (named : Bool) (pool : List ℕ) where
   pub record Here (levels i end : ℕ) (tape : List ℕ) (at : ℕ) (out : List ℕ) (r : Record) : Type 0 where
     pub judged : Passed letters levels named pool i r (length (records_from tape (i + 1) end))
     pub inside : i + 1 + r.beneath ≤ end
-    pub beneath : judge_records letters (levels - 1) (is_table (kind_of letters r.letter)) pool (i + 1) (beneath_of tape i r) ≡ Option.none
+    pub beneath : judge_records letters (levels - 1) (is_table (kind_of letters r.letter)) pool (i + 1) (beneath_of tape i r) ≡ None
     pub whole : first_octets letters named pool (records_from tape i end) ≡ name_of named pool r ++ octets 1 r.letter ++ payload_of letters pool r (beneath_of tape i r)
     pub lengths : length (name_of named pool r) + 1 + length (payload_of letters pool r (beneath_of tape i r)) ≤ 4294967295 + 5
     pub space : at + (length (name_of named pool r) + 1 + length (payload_of letters pool r (beneath_of tape i r))) ≤ length out
@@ -172,14 +160,19 @@ module _ {letters : Letters} {pool : List ℕ} {levels i : ℕ} {tape : List ℕ
   pub body-count : (next + 4 ≤ last) × (last - (next + 4) ≤ 4294967295)
   body-count = (omega (arith, d.next), omega (arith, d.next, b.short))
 
-  pub body-emitted : {high : List ℕ} {w : Answer Unit} → outcome w high ≡ write_uint 4 (last - (next + 4)) next low → Emitted whole at out high last
-  body-emitted o = b.rest (long-before (last - (next + 4)) (omega (arith, d.next)) b.space d o)
+  pub body-emitted : {high : List ℕ} {m : ℕ} → Emitted (octets 4 (last - (next + 4))) next low high m → Emitted whole at out high last
+  body-emitted q = b.rest (long-before (last - (next + 4)) (omega (arith, d.next)) b.space d q)
 
 module _ {letters : Letters} {named : Bool} {pool : List ℕ} {levels i end : ℕ} {tape : List ℕ} {at : ℕ} {out : List ℕ} {r : Record} (x : Here letters named pool levels i end tape at out r) where
   pub letter-small : Octets letters → r.letter < 256
   letter-small o = letter-octet letters r.letter o x.judged.known
 
-  pub name-passes : judge_name named pool 0 r.name ≡ Option.none
+  -- each letter that was judged is known
+  pub has_kind : (q : Option Kind) → kind_or_unknown q ≡ kind_of letters r.letter → IsSome q
+  has_kind (Some k) e = refl
+  has_kind None e = let h = rw (← e) at x.judged.known in let z : ◌≡◌ {A = ℕ} 0 1 = cc in absurd (omega arith)
+
+  pub name-passes : judge_name named pool 0 r.name ≡ None
   name-passes = name-anywhere named pool i r.name x.judged.name
 
   pub name-space : at + length (name_of named pool r) ≤ length out
@@ -222,14 +215,14 @@ module _ {letters : Letters} {named : Bool} {pool : List ℕ} {levels i end : �
         }
 
     -- a leaf
-    module _ (k : Kind) (e : answer_of_kind k ≡ kind_of letters r.letter) (o : OneOf (0 ∷ 1 ∷ 2 ∷ 3 ∷ 4 ∷ 5 ∷ 6 ∷ 7 ∷ 9 ∷ []) (tag_of the_type k)) where
+    module _ (k : Kind) (e : answer_of_kind k ≡ kind_of letters r.letter) (o : (named : Bool) → k ≡ code.Container named → ⊥) where
       leaf-is : payload_of letters pool r (beneath_of tape i r) ≡ leaf_payload (answer_of_kind k) pool r.payload
       leaf-is =
           let us = beneath_of tape i r in
           ap (λ (h : kind.Kind). payload_octets h (payload_meaning h pool r.payload) (records_octets letters (is_table h) pool us)) (sym e)
           ∙ leaf-payload k pool r.payload (records_octets letters (is_table (answer_of_kind k)) pool us) o
 
-      pub leaf-ready : (judge_payload (answer_of_kind k) pool 0 r.payload ≡ Option.none) × (length (leaf_payload (answer_of_kind k) pool r.payload) ≤ 4294967295 + 4)
+      pub leaf-ready : (judge_payload (answer_of_kind k) pool 0 r.payload ≡ None) × (length (leaf_payload (answer_of_kind k) pool r.payload) ≤ 4294967295 + 4)
           × (next + length (leaf_payload (answer_of_kind k) pool r.payload) ≤ length mid)
       leaf-ready =
           (rw e (payload-anywhere (kind_of letters r.letter) pool i r.payload x.judged.payload), omega (arith, l.lengths, ap length leaf-is), omega (arith, l.space, ap length leaf-is))
@@ -253,8 +246,8 @@ module _ {letters : Letters} {named : Bool} {pool : List ℕ} {levels : ℕ} {ta
       go.rest (rw no (none_emitted now out))
 
   module _ (more : i < end) where
-    step-passed : (judge_first letters named pool levels i (records_from tape i end) ≡ Option.none)
-        × (judge_records letters levels named pool (i + 1 + (nth_record tape i).beneath) (drop (nth_record tape i).beneath (records_from tape (i + 1) end)) ≡ Option.none)
+    step-passed : (judge_first letters named pool levels i (records_from tape i end) ≡ None)
+        × (judge_records letters levels named pool (i + 1 + (nth_record tape i).beneath) (drop (nth_record tape i).beneath (records_from tape (i + 1) end)) ≡ None)
     step-passed =
         let step = records-step tape end go.ready.on_tape i more in
         rw step (all-passed letters named pool levels i (nth_record tape i) (records_from tape (i + 1) end) (rw step at go.ready.passes))
@@ -304,3 +297,8 @@ module _ {letters : Letters} {named : Bool} {pool : List ℕ} {levels : ℕ} {ta
           rest = λ q. go.rest (rw both (emitted-after turn-ready.space d q));
           same = same ∙ go.same;
         }
+
+    -- by the record that was read
+    pub turn-read : (r : Record) → inl r ≡ record_at tape i → {out' : List ℕ} {now' : ℕ} → Emitted (first_octets letters named pool (records_from tape i end)) now out out' now'
+        → (i + 1 + r.beneath ≤ end) × Going letters named pool levels tape first end out₀ at out' now' (i + 1 + r.beneath)
+    turn-read r there d = let same = was_read tape i end r (omega (arith, more)) go.ready.on_tape there in rw same (turn_inside, turn-again d)

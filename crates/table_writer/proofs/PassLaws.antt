@@ -2,7 +2,7 @@
 use mathlib.Core.Path.{◌≡◌, refl, sym, ap, ◌∙◌}
 use mathlib.Core.Logic.{◌⊎◌, inl, inr}
 use mathlib.Core.Bool.{Bool, true, false, cond}
-use mathlib.Core.Option.{Option, some}
+use Rattle.std.specs.Prelude.{Option, Some, None}
 use mathlib.Core.List.{List, [], ◌∷◌}
 use Prim.Native.Nat.{ℕ, ◌+◌, ◌-◌, ◌*◌, ◌≤◌, ◌<◌}
 use native.Mathlib.Omega.{arith}
@@ -33,8 +33,8 @@ passed-kind false b j k r t q = let z : ◌≡◌ {A = ℕ} 0 1 = cc in absurd (
 
 -- the first of two judgements refuses
 pub refused-first : (a b : Option Refusal) (m n : ℕ) (e : Refusal) → inr e ≡ sized a m → inr e ≡ sized (or_else a b) n
-refused-first Option.none b m n e q = let z : ◌≡◌ {A = ℕ} 0 1 = cc in absurd (omega arith)
-refused-first (some r) b m n e q = let s : e ≡ r = cc in ap inr s
+refused-first None b m n e q = let z : ◌≡◌ {A = ℕ} 0 1 = cc in absurd (omega arith)
+refused-first (Some r) b m n e q = let s : e ≡ r = cc in ap inr s
 
 -- no answer is above the cap
 sized-le : (o : Option Refusal) (m n : ℕ) → inl n ≡ sized o (capped m) → n ≤ 0x200000000
@@ -62,7 +62,7 @@ module _ (letters : Letters) (d : ℕ) (named : Bool) (pool : List ℕ) (i : ℕ
   of_payload k = sized (judge_payload k pool i r.payload) (capped (payload_size k))
 
   abbrev of_count : Kind → Option Refusal
-  of_count k = test (count_ok k r.beneath left) (bad_tape i) Option.none
+  of_count k = test (count_ok k r.beneath left) (bad_tape i) None
 
   abbrev after_name : Kind → Option Refusal
   after_name k = or_else (judge_payload k pool i r.payload) (of_count k)
@@ -104,10 +104,10 @@ module _ {letters : Letters} {d : ℕ} {named : Bool} {pool : List ℕ} {i : ℕ
   abbrev size : ℕ
   size = own letters d named pool i r left k
 
-  name-is : (judge_name named pool i r.name ≡ Option.none) × (name_size letters d named pool i r left ≡ m)
+  name-is : (judge_name named pool i r.name ≡ None) × (name_size letters d named pool i r left ≡ m)
   name-is = sized-given (judge_name named pool i r.name) (name_size letters d named pool i r left) m (sym p.name)
 
-  payload-is : (judge_payload k pool i r.payload ≡ Option.none) × (capped (payload_size letters d named pool i r left k) ≡ n)
+  payload-is : (judge_payload k pool i r.payload ≡ None) × (capped (payload_size letters d named pool i r left k) ≡ n)
   payload-is = sized-given (judge_payload k pool i r.payload) (capped (payload_size letters d named pool i r left k)) n (sym p.payload)
 
   pub parts-le : (m ≤ 256) × (n ≤ 0x200000000)
@@ -120,12 +120,12 @@ module _ {letters : Letters} {d : ℕ} {named : Bool} {pool : List ℕ} {i : ℕ
       ∙ after-name letters d named pool i r left k p.known m p.name
 
   pub record-count : count_ok k r.beneath left ≡ false → inr (bad_tape i) ≡ sized_record letters d named pool i r left
-  record-count e = sym (ap (λ (b : Bool). sized (test b (bad_tape i) Option.none) size) e) ∙ after-payload
+  record-count e = sym (ap (λ (b : Bool). sized (test b (bad_tape i) None) size) e) ∙ after-payload
 
   pub record-given : count_ok k r.beneath left ≡ true → inl (capped (m + 1 + n)) ≡ sized_record letters d named pool i r left
   record-given e =
       let s : capped (m + 1 + n) ≡ size = rw (← name-is.1, ← payload-is.1) (capped-right (name_size letters d named pool i r left + 1) (payload_size letters d named pool i r left k)) in
-      ap inl s ∙ sym (ap (λ (b : Bool). sized (test b (bad_tape i) Option.none) size) e) ∙ after-payload
+      ap inl s ∙ sym (ap (λ (b : Bool). sized (test b (bad_tape i) None) size) e) ∙ after-payload
 
 -- Records on a tape, up to `end`
 
@@ -274,3 +274,10 @@ module _ {letters : Letters} {d : ℕ} {named : Bool} {pool tape : List ℕ} {en
                 ∙ (rw (all-step, sym value, records-drop tape end on_tape (i + 1) (get_or tape (i * 6 + 5) 0) turn_inside)
                 (both-both size n (all_from letters d named pool tape end next)));
           }
+
+      -- by the record that was read
+      pub kept-read : (r : Record) → inl r ≡ record_at tape i → (i + 1 + r.beneath ≤ end) × Kept letters d named pool tape end start (i + 1 + r.beneath) (capped (size + n))
+      kept-read r there =
+          let e = record-here tape end on_tape i more in
+          let same : r ≡ nth_record tape i = cc in
+          rw same (turn_inside, kept-turn)

@@ -2,7 +2,7 @@
 use mathlib.Core.Path.{◌≡◌, refl, sym, ap, ◌∙◌}
 use mathlib.Core.Logic.{◌⊎◌, inl, inr}
 use mathlib.Core.Bool.{Bool, true, false}
-use mathlib.Core.Option.{Option, some}
+use Rattle.std.specs.Prelude.{Option, Some, None}
 use mathlib.Core.List.{List, [], ◌∷◌}
 use Prim.Native.Nat.{ℕ, ◌+◌, ◌-◌, ◌/◌, ◌%◌, ◌<◌}
 use native.Mathlib.Omega.{arith}
@@ -27,34 +27,34 @@ use Rattle.table_writer.proofs.PassLaws.{refused-first, records-at, all_from}
 
 -- a judgement that passes, and then a test
 module _ (a : Option Refusal) (r : Refusal) (n m : ℕ) (passes : inl m ≡ sized a n) where
-  then-fails : (b : Bool) → b ≡ false → inr r ≡ sized (or_else a (test b r Option.none)) n
+  then-fails : (b : Bool) → b ≡ false → inr r ≡ sized (or_else a (test b r None)) n
   then-fails b e = sym (rw ((sized-given a n m (sym passes)).0, e))
 
-  then-passes : (b : Bool) → b ≡ true → inl m ≡ sized (or_else a (test b r Option.none)) n
+  then-passes : (b : Bool) → b ≡ true → inl m ≡ sized (or_else a (test b r None)) n
   then-passes b e = let p = sized-given a n m (sym passes) in sym (rw (p.0, e) (ap inl p.1))
 
 -- The first record of a lone value
 
-then-none : (a : Option Refusal) → or_else a Option.none ≡ a
-then-none Option.none = refl
-then-none (some r) = refl
+then-none : (a : Option Refusal) → or_else a None ≡ a
+then-none None = refl
+then-none (Some r) = refl
 
 -- what refuses just as the last test does: then that test does not matter
 last-test : (known level : Bool) (name payload : Option Refusal) (a b : Bool) (r t : Refusal)
-    → or_else (test known r (test level t (or_else name (or_else payload (test a r Option.none))))) (some r)
-    ≡ or_else (test known r (test level t (or_else name (or_else payload (test b r Option.none))))) (some r)
+    → or_else (test known r (test level t (or_else name (or_else payload (test a r None))))) (Some r)
+    ≡ or_else (test known r (test level t (or_else name (or_else payload (test b r None))))) (Some r)
 last-test false level name payload a b r t = refl
 last-test true false name payload a b r t = refl
-last-test true true (some n) payload a b r t = refl
-last-test true true Option.none (some p) a b r t = refl
-last-test true true Option.none Option.none true true r t = refl
-last-test true true Option.none Option.none true false r t = refl
-last-test true true Option.none Option.none false true r t = refl
-last-test true true Option.none Option.none false false r t = refl
+last-test true true (Some n) payload a b r t = refl
+last-test true true None (Some p) a b r t = refl
+last-test true true None None true true r t = refl
+last-test true true None None true false r t = refl
+last-test true true None None false true r t = refl
+last-test true true None None false false r t = refl
 
 module _ (letters : Letters) (pool : List ℕ) (r : Record) where
   -- so it does not matter how many records are left behind one that is refused in any case
-  any_left : (m n : ℕ) → or_else (judge_record letters 15 false pool 0 r m) (some (bad_tape 0)) ≡ or_else (judge_record letters 15 false pool 0 r n) (some (bad_tape 0))
+  any_left : (m n : ℕ) → or_else (judge_record letters 15 false pool 0 r m) (Some (bad_tape 0)) ≡ or_else (judge_record letters 15 false pool 0 r n) (Some (bad_tape 0))
   unfolding judge_record
   any_left m n =
       let k = kind_of letters r.letter in
@@ -79,7 +79,7 @@ module _ (letters : Letters) (pool : List ℕ) (r : Record) where
       s ∙ (rw (t, z, judge-end letters 14 k pool 1, judge-end letters 15 false pool (0 + 1 + r.beneath), then-none (judge_record letters 15 false pool 0 r 0)))
 
   -- it does not count all others
-  miscounts : (rs : List Record) → (r.beneath ≡ length rs → ⊥) → judge_lone letters pool (r ∷ rs) ≡ or_else (judge_records letters 15 false pool 0 (r ∷ [])) (some (bad_tape 0))
+  miscounts : (rs : List Record) → (r.beneath ≡ length rs → ⊥) → judge_lone letters pool (r ∷ rs) ≡ or_else (judge_records letters 15 false pool 0 (r ∷ [])) (Some (bad_tape 0))
   miscounts rs h = rw (ne_eqb r.beneath (length rs) h, alone) (any_left (length rs) 0)
 
 -- Whole tapes
@@ -175,17 +175,17 @@ module _ (letters : Letters) (pool tape : List ℕ) where
       sized-alone : sized_alone ≡ sized first (capped (length (records_octets letters false pool (r ∷ []))))
       sized-alone = rw one
 
-      after_first : sized (or_else (or_else first (some (bad_tape 0))) (whole_tape tape)) total ≡ sized_lone
+      after_first : sized (or_else (or_else first (Some (bad_tape 0))) (whole_tape tape)) total ≡ sized_lone
       unfolding judge_lone_value
       after_first =
-          let s : judge_lone letters pool (records tape_records tape) ≡ or_else first (some (bad_tape 0)) = rw all (miscounts letters pool r rest (λ e. short (e ∙ rest-length))) in
+          let s : judge_lone letters pool (records tape_records tape) ≡ or_else first (Some (bad_tape 0)) = rw all (miscounts letters pool r rest (λ e. short (e ∙ rest-length))) in
           sym (ap (λ (o : Option Refusal). sized (or_else o (whole_tape tape)) total) s)
 
       pub lone-refused : (e : Refusal) → inr e ≡ sized_alone → inr e ≡ sized_lone
       lone-refused e q =
-          refused-first (or_else first (some (bad_tape 0))) (whole_tape tape) total total e (refused-first first (some (bad_tape 0)) _ total e (q ∙ sized-alone)) ∙ after_first
+          refused-first (or_else first (Some (bad_tape 0))) (whole_tape tape) total total e (refused-first first (Some (bad_tape 0)) _ total e (q ∙ sized-alone)) ∙ after_first
 
       pub lone-miscounts : (n : ℕ) → inl n ≡ sized_alone → inr (bad_tape 0) ≡ sized_lone
       lone-miscounts n q =
-          let p : first ≡ Option.none = (sized-given first _ n (sym (q ∙ sized-alone))).0 in
-          sym (ap (λ (o : Option Refusal). sized (or_else (or_else o (some (bad_tape 0))) (whole_tape tape)) total) p) ∙ after_first
+          let p : first ≡ None = (sized-given first _ n (sym (q ∙ sized-alone))).0 in
+          sym (ap (λ (o : Option Refusal). sized (or_else (or_else o (Some (bad_tape 0))) (whole_tape tape)) total) p) ∙ after_first

@@ -1,9 +1,9 @@
 -- The two passes together: from what the first has judged to the answer and the output at exit.
-use mathlib.Core.Path.{◌≡◌, refl, sym, ap, ◌∙◌}
-use mathlib.Core.Logic.{◌⊎◌, inl, inr}
+use mathlib.Core.Path.{◌≡◌, sym, ap, ◌∙◌}
+use mathlib.Core.Logic.{inl, inr}
 use mathlib.Core.Bool.{Bool, true, false}
 use mathlib.Core.List.{List}
-use mathlib.Core.Option.{Option, none, some}
+use Rattle.std.specs.Prelude.{Option, None, Some}
 use Prim.Native.Nat.{ℕ, ◌+◌, ◌-◌, ◌/◌, ◌≤◌, ◌<◌}
 use native.Mathlib.Omega.{arith}
 use lib.ListN.{length, length-append}
@@ -25,23 +25,14 @@ use Rattle.tables.proofs.JudgeLaws.{lone-passes}
 use Rattle.table_writer.specs.Sizes.{capped, sized, records_from, records_octets, tape_size}
 use Rattle.table_writer.specs.Emitting.{Emitted, Ready}
 use Rattle.table_writer.proofs.RecordLaws.{records-all}
-
--- What the first pass says
-
-judged-none : (judged : Option Refusal) (n m : ℕ) → ◌≡◌ {A = ℕ ⊎ Refusal} (inl n) (sized judged m) → (judged ≡ none) × (n ≡ m)
-judged-none none n m e = let same : n ≡ m = cc in (refl, same)
-judged-none (some r) n m e = let z : ◌≡◌ {A = ℕ} 0 1 = cc in absurd (omega arith)
-
-judged-some : (judged : Option Refusal) (r : Refusal) (m : ℕ) → ◌≡◌ {A = ℕ ⊎ Refusal} (inr r) (sized judged m) → judged ≡ some r
-judged-some none r m e = let z : ◌≡◌ {A = ℕ} 0 1 = cc in absurd (omega arith)
-judged-some (some q) r m e = let same : q ≡ r = cc in ap some same
+use Rattle.table_writer.proofs.SizeLaws.{sized-given, sized-refused}
 
 -- a size that is no more than some limit below the cap is exact, and one over it is over it
-exact : (n m limit : ℕ) → limit ≤ 4294967295 + 5 → n ≡ capped m → n ≤ limit → m ≡ n
+exact : (n m limit : ℕ) → limit ≤ 4294967295 + 5 → capped m ≡ n → n ≤ limit → m ≡ n
 unfolding capped
 exact n m limit l e h = omega arith
 
-over : (n m limit : ℕ) → limit ≤ 4294967295 + 5 → n ≡ capped m → limit < n → limit < m
+over : (n m limit : ℕ) → limit ≤ 4294967295 + 5 → capped m ≡ n → limit < n → limit < m
 unfolding capped
 over n m limit l e h = omega arith
 
@@ -51,11 +42,11 @@ module _ (judged : Option Refusal) (len : ℕ) (xs : List ℕ) (at : ℕ) (out :
   abbrev written : Outcome Unit
   written = write_at (or_else judged (judge_length len)) xs at out
 
-  write-judged : (r : Refusal) → judged ≡ some r → outcome (refused r) out ≡ written
+  write-judged : (r : Refusal) → judged ≡ Some r → outcome (refused r) out ≡ written
   unfolding write_at
   write-judged r e = rw e
 
-  module _ (passes : judged ≡ none) where
+  module _ (passes : judged ≡ None) where
     write-long : 4294967295 < len → outcome (refused too_long) out ≡ written
     unfolding write_at
     write-long h = rw (passes, leb_no len 4294967295 h)
@@ -81,11 +72,11 @@ module _ (letters : Letters) (pool tape : List ℕ) (at : ℕ) (out : List ℕ) 
 
   pub table-refused : (r : Refusal) → inr r ≡ sized (judge_table letters pool tape) (tape_size letters true pool tape) → outcome (refused r) out ≡ write_table letters pool tape at out
   unfolding write_table
-  table-refused r e = write-judged (judge_table letters pool tape) (length table_body) (long_str table_body) at out r (judged-some (judge_table letters pool tape) r (tape_size letters true pool tape) e)
+  table-refused r e = write-judged (judge_table letters pool tape) (length table_body) (long_str table_body) at out r (sized-refused (judge_table letters pool tape) (tape_size letters true pool tape) r e)
 
   module _ (n : ℕ) (e : inl n ≡ sized (judge_table letters pool tape) (tape_size letters true pool tape)) where
-    table-passes : (judge_table letters pool tape ≡ none) × (n ≡ capped (length table_body))
-    table-passes = judged-none (judge_table letters pool tape) n (tape_size letters true pool tape) e
+    table-passes : (judge_table letters pool tape ≡ None) × (capped (length table_body) ≡ n)
+    table-passes = sized-given (judge_table letters pool tape) (tape_size letters true pool tape) n (sym e)
 
     pub table-too-long : 4294967295 < n → outcome (refused too_long) out ≡ write_table letters pool tape at out
     unfolding write_table
@@ -132,11 +123,11 @@ module _ (letters : Letters) (pool tape : List ℕ) (at : ℕ) (out : List ℕ) 
 
   pub value-refused : (r : Refusal) → inr r ≡ sized (judge_lone_value letters pool tape) (tape_size letters false pool tape) → outcome (refused r) out ≡ write_lone_value letters pool tape at out
   unfolding write_lone_value
-  value-refused r e = write-judged (judge_lone_value letters pool tape) (length value_body - 5) value_body at out r (judged-some (judge_lone_value letters pool tape) r (tape_size letters false pool tape) e)
+  value-refused r e = write-judged (judge_lone_value letters pool tape) (length value_body - 5) value_body at out r (sized-refused (judge_lone_value letters pool tape) (tape_size letters false pool tape) r e)
 
   module _ (n : ℕ) (e : inl n ≡ sized (judge_lone_value letters pool tape) (tape_size letters false pool tape)) where
-    value_passes : (judge_lone_value letters pool tape ≡ none) × (n ≡ capped (length value_body))
-    value_passes = judged-none (judge_lone_value letters pool tape) n (tape_size letters false pool tape) e
+    value_passes : (judge_lone_value letters pool tape ≡ None) × (capped (length value_body) ≡ n)
+    value_passes = sized-given (judge_lone_value letters pool tape) (tape_size letters false pool tape) n (sym e)
 
     pub value-too-long : 4294967295 + 5 < n → outcome (refused too_long) out ≡ write_lone_value letters pool tape at out
     unfolding write_lone_value

@@ -1,4 +1,3 @@
 -- The specification of the two passes of the writers of field tables.
 pub mod Sizes
-pub mod AnswerOf
 pub mod Emitting

@@ -1,7 +1,7 @@
 -- What the first pass answers of a tape: the first refusal, or how many octets there are to write.
-use Rattle.std.specs.Prelude.{ℕ, ◌+◌, ◌-◌, min, ◌⊎◌, Bool, cond, List, [], ◌∷◌, length, take, drop}
+use Rattle.std.specs.Prelude.{◌≡◌, ℕ, ◌+◌, ◌-◌, min, ◌⊎◌, Bool, cond, List, [], ◌∷◌, length, take, drop}
 use Rattle.std.proofs.Common.{inl, inr}
-use Rattle.std.proofs.Math.Option.{Option, some}
+use Rattle.std.specs.Prelude.{Option, Some, None}
 use Rattle.types.specs.Answer.{Refusal, bad_tape, too_deep}
 use Rattle.types.specs.Strings.{octets_of}
 use Rattle.types.specs.Judgement.{or_else}
@@ -9,7 +9,9 @@ use Rattle.types.specs.Records.{records}
 use Rattle.tables.specs.Letters as kind
 use Rattle.tables.specs.Letters.{Leaf, number, boolean, decimal, Kind, leaf, container, unknown, Letters, kind_of, is_table}
 use Rattle.tables.specs.Forest.{none, item, meaning_of}
-use Rattle.tables.specs.Tape.{Record, tape_records, forest_of}
+use Rattle.tables.specs.AnswerOf.{record_of}
+use Rattle.tables.specs.declared.TapeRecord.{TapeRecord}
+use Rattle.tables.specs.Tape.{Record, record_at, tape_records, forest_of}
 use Rattle.tables.specs.Writing.{name_octets, body, is_known, has_level, judge_record, judge_records, whole_tape, tape_meaning}
 
 -- more than any length that can be written
@@ -17,8 +19,8 @@ unfoldable pub capped : ℕ → ℕ
 capped n = min n 0x200000000
 
 abbrev pub sized : Option Refusal → ℕ → ℕ ⊎ Refusal
-sized Option.none n = inl n
-sized (some r) n = inr r
+sized None n = inl n
+sized (Some r) n = inr r
 
 -- a letter that is known and a depth that is allowed, or the refusal
 abbrev pub kind_or_refusal : Kind → ℕ → ℕ → Kind ⊎ Refusal
@@ -36,6 +38,10 @@ abbrev pub own_payload : Kind → ℕ → ℕ
 own_payload (leaf l) second = own_leaf l second
 own_payload (container named) second = 4
 own_payload unknown second = 0
+
+-- record i of a tape was read
+abbrev pub Reads : List ℕ → ℕ → TapeRecord → Type 0
+Reads tape i r = inl (record_of r) ≡ record_at tape i
 
 -- the records of a tape from number i up to `end`
 unfoldable pub records_from : List ℕ → ℕ → ℕ → List Record
@@ -56,7 +62,7 @@ module _ (letters : Letters) (named : Bool) (pool : List ℕ) where
 
   -- the judgement of the first record with those beneath it
   unfoldable pub judge_first : ℕ → ℕ → List Record → Option Refusal
-  judge_first d i [] = Option.none
+  judge_first d i [] = None
   judge_first d i (r ∷ rs) =
       or_else (judge_record letters d named pool i r (length rs)) (judge_records letters (d - 1) (is_table (kind_of letters r.letter)) pool (i + 1) (take r.beneath rs))
 

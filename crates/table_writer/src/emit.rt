@@ -1,124 +1,103 @@
-// The second pass: the octets of records that were judged, where they all have space, so that nothing is refused here.
-ghost use Rattle.std.specs.Prelude.{◌≡◌, true, ◌+◌, ◌≤◌, length, take, drop};
-ghost use Rattle.std.proofs.Math.Option.{none};
+// The second pass: the octets of records that were judged, where they all have space, so that nothing is refused here. The place goes
+// in and comes out, as a writer's does: a container's length is known behind its records, and goes to a place before them. `end`,
+// `levels` and `named` are no struct, as in the first pass.
+ghost use Rattle.std.specs.Prelude.{◌≡◌, true, ◌+◌, ◌≤◌, length, None};
+ghost use Rattle.types.specs.Octets.{number_width, octets};
 ghost use Rattle.types.specs.Strings.{octets_of};
-ghost use Rattle.writers.specs.AnswerOf.{answer_of_written};
 ghost use Rattle.tables.specs.Letters.{errata};
-ghost use Rattle.tables.specs.Forest.{words};
 ghost use Rattle.tables.specs.Writing.{name_octets, judge_name, judge_payload, judge_records};
-ghost use Rattle.tables.specs.AnswerOf.{answer_of_kind};
-ghost use Rattle.table_writer.specs.Sizes.{records_from, records_octets, first_octets, judge_first};
-ghost use Rattle.table_writer.specs.Emitting.{next_or, Emitted, Ready, leaf_payload};
+ghost use Rattle.tables.specs.AnswerOf.{answer_of_kind, payload_words};
+ghost use Rattle.table_writer.specs.Sizes.{Reads, records_from, records_octets, first_octets, judge_first};
+ghost use Rattle.table_writer.specs.Emitting.{Emitted, Ready, leaf_payload};
 
-use tables::letters::kind_of;
-use tables::tape::{RECORD_WORDS, record_at};
-use tables::{Kind, ReadRecord};
-use types::Span;
-use writers::{Written, write_octets, write_u8, write_u16, write_u32, write_u64};
+use crate::Source;
+use tables::tape::record_at;
+use tables::{Kind, PayloadWords, TapeRecord};
+use types::{Number, Span};
+use writers::{write_number, write_octets};
 
-// The position behind what was written. There is space, so nothing is refused.
-fn next_of(w: Written, at: usize) -> usize
-    ensures { result ≡ next_or at (answer_of_written w) }
+// The low octets of a number.
+pub(crate) fn emit_number(out: &mut [u8], at: usize, width: Number, n: u64) -> usize
+    requires { at + number_width width ≤ length out.old }
+    ensures { Emitted (octets (number_width width) n) at out.old out.new result }
 {
-    match w {
-        Written::Next(next) => next,
-        Written::Refused(_) => at,
-    }
+    write_number(out, at, width, n).unwrap()
 }
 
 // Octets of the pool.
-fn emit_span(out: &mut [u8], at: usize, pool: &[u8], start: usize, len: usize) -> usize
-    requires { (start + len ≤ length pool.now) × (at + len ≤ length out.old) }
-    ensures { Emitted (take len (drop start pool.now)) at out.old out.new result }
+fn emit_span(out: &mut [u8], at: usize, pool: &[u8], v: Span) -> usize
+    requires { (v.start + v.len ≤ length pool.now) × (at + v.len ≤ length out.old) }
+    ensures { Emitted (octets_of pool.now v) at out.old out.new result }
 {
-    next_of(write_octets(out, at, &pool[start..start + len]), at)
+    let octets = v.octets_in(pool).unwrap();
+    write_octets(out, at, octets).unwrap()
 }
 
 // The name of a table's entry; values of an array have none.
 fn emit_name(out: &mut [u8], at: usize, pool: &[u8], name: Span, named: bool) -> usize
-    requires { (judge_name named pool.now 0 name ≡ none) × (at + length (name_octets named (octets_of pool.now name)) ≤ length out.old) }
+    requires { (judge_name named pool.now 0 name ≡ None) × (at + length (name_octets named (octets_of pool.now name)) ≤ length out.old) }
     ensures { Emitted (name_octets named (octets_of pool.now name)) at out.old out.new result }
 {
     if !named {
         return at;
     }
-    let next = next_of(write_u8(out, at, name.len as u8), at);
-    emit_span(out, next, pool, name.start, name.len)
+    let next = emit_number(out, at, Number::U8, name.len as u64);
+    emit_span(out, next, pool, name)
 }
 
 // The payload of a leaf.
-fn emit_leaf(out: &mut [u8], at: usize, pool: &[u8], kind: Kind, first: u64, second: u64) -> usize
-    requires { (judge_payload (answer_of_kind kind) pool.now 0 (words first second) ≡ none) × (length (leaf_payload (answer_of_kind kind) pool.now (words first second)) ≤ 4294967295 + 4) × (at + length (leaf_payload (answer_of_kind kind) pool.now (words first second)) ≤ length out.old) }
-    ensures { Emitted (leaf_payload (answer_of_kind kind) pool.now (words first second)) at out.old out.new result }
+fn emit_leaf(out: &mut [u8], at: usize, pool: &[u8], kind: Kind, x: PayloadWords) -> usize
+    requires { (judge_payload (answer_of_kind kind) pool.now 0 (payload_words x) ≡ None) × (length (leaf_payload (answer_of_kind kind) pool.now (payload_words x)) ≤ 4294967295 + 4) × (at + length (leaf_payload (answer_of_kind kind) pool.now (payload_words x)) ≤ length out.old) }
+    ensures { Emitted (leaf_payload (answer_of_kind kind) pool.now (payload_words x)) at out.old out.new result }
 {
     match kind {
-        Kind::Number8 => next_of(write_u8(out, at, first as u8), at),
-        Kind::Number16 => next_of(write_u16(out, at, first as u16), at),
-        Kind::Number32 => next_of(write_u32(out, at, first as u32), at),
-        Kind::Number64 => next_of(write_u64(out, at, first), at),
-        Kind::Boolean => next_of(write_u8(out, at, first as u8), at),
+        Kind::Number(width) => emit_number(out, at, width, x.first),
+        Kind::Boolean => emit_number(out, at, Number::U8, x.first),
         Kind::Decimal => {
-            let next = next_of(write_u8(out, at, first as u8), at);
-            next_of(write_u32(out, next, second as u32), next)
+            let next = emit_number(out, at, Number::U8, x.first);
+            emit_number(out, next, Number::U32, x.second)
         }
         Kind::LongStr => {
-            let next = next_of(write_u32(out, at, second as u32), at);
-            emit_span(out, next, pool, first as usize, second as usize)
+            let next = emit_number(out, at, Number::U32, x.second);
+            emit_span(out, next, pool, x.to_span())
         }
         _ => at,
     }
 }
 
-// Record i and those beneath it, which end before record `end`.
+// Record i, which is r, and those beneath it, which end before record `end`.
 #[cycle(emit_records_emit_value)]
 fn emit_value(
-    pool: &[u8],
-    tape: &[u64],
+    source: Source<'_>,
     i: usize,
+    r: TapeRecord,
     end: usize,
     levels: usize,
     named: bool,
     out: &mut [u8],
     at: usize,
 ) -> usize
-    requires { (i + 1 ≤ end) × Ready (judge_first errata named pool.now levels i (records_from tape.now i end)) (first_octets errata named pool.now (records_from tape.now i end)) at out.old end tape.now }
-    ensures { Emitted (first_octets errata named pool.now (records_from tape.now i end)) at out.old out.new result }
+    requires { (i + 1 ≤ end) × Reads source.tape.now i r × Ready (judge_first errata named source.pool.now levels i (records_from source.tape.now i end)) (first_octets errata named source.pool.now (records_from source.tape.now i end)) at out.old end source.tape.now }
+    ensures { Emitted (first_octets errata named source.entry.pool.now (records_from source.entry.tape.now i end)) at out.old out.new result }
 {
-    match record_at(tape, i) {
-        ReadRecord::Refused(_) => at,
-        ReadRecord::Value(r) => {
-            let letter = r.letter as u8;
-            let here = emit_name(out, at, pool, r.name, named);
-            let payload = next_of(write_u8(out, here, letter), here);
-            let kind = kind_of(letter);
-            match kind {
-                Kind::Container(inner) => {
-                    let first = i + 1;
-                    let start = payload + 4;
-                    let next = emit_records(
-                        pool,
-                        tape,
-                        first,
-                        first + r.beneath,
-                        levels - 1,
-                        inner,
-                        out,
-                        start,
-                    );
-                    write_u32(out, payload, (next - start) as u32);
-                    next
-                }
-                _ => emit_leaf(out, payload, pool, kind, r.first, r.second),
-            }
-        }
-    }
+    let here = emit_name(out, at, source.pool, r.name, named);
+    let payload = emit_number(out, here, Number::U8, r.letter);
+    let kind = r.kind().unwrap();
+    let Kind::Container(inner) = kind else {
+        return emit_leaf(out, payload, source.pool, kind, r.payload);
+    };
+    let first = i + 1;
+    let last = first + r.beneath;
+    let start = payload + 4;
+    let next = emit_records(source, first, last, levels - 1, inner, out, start);
+    emit_number(out, payload, Number::U32, (next - start) as u64);
+    next
 }
 
 // The records from `first` on, up to record `end`.
 #[cycle(emit_records_emit_value)]
 pub(crate) fn emit_records(
-    pool: &[u8],
-    tape: &[u64],
+    source: Source<'_>,
     first: usize,
     end: usize,
     levels: usize,
@@ -126,14 +105,16 @@ pub(crate) fn emit_records(
     out: &mut [u8],
     at: usize,
 ) -> usize
-    requires { (first ≤ end) × Ready (judge_records errata levels named pool.now first (records_from tape.now first end)) (records_octets errata named pool.now (records_from tape.now first end)) at out.old end tape.now }
-    ensures { Emitted (records_octets errata named pool.now (records_from tape.now first end)) at out.old out.new result }
+    requires { (first ≤ end) × Ready (judge_records errata levels named source.pool.now first (records_from source.tape.now first end)) (records_octets errata named source.pool.now (records_from source.tape.now first end)) at out.old end source.tape.now }
+    ensures { Emitted (records_octets errata named source.entry.pool.now (records_from source.entry.tape.now first end)) at out.old out.new result }
 {
     let mut here = at;
     let mut i = first;
+    // No iterator of records: their numbers are told too, in refusals and in clauses.
     while i < end {
-        here = emit_value(pool, tape, i, end, levels, named, out, here);
-        i = i + 1 + tape[i * RECORD_WORDS + 5] as usize;
+        let r = record_at(source.tape, i).unwrap();
+        here = emit_value(source, i, r, end, levels, named, out, here);
+        i = i + 1 + r.beneath;
     }
     here
 }

@@ -4,82 +4,65 @@
 
 ghost use Rattle.std.specs.Prelude.{◌≡◌, true};
 ghost use Rattle.types.specs.Memory.{outcome};
+ghost use Rattle.types.specs.AnswerOf.{or_refusal};
 ghost use Rattle.writers.specs.AnswerOf.{answer_of_written};
 ghost use Rattle.tables.specs.Letters.{errata};
 ghost use Rattle.tables.specs.Writing.{judge_table, write_table, write_lone_value};
 ghost use Rattle.table_writer.specs.Sizes.{sized, tape_size};
-ghost use Rattle.table_writer.specs.AnswerOf.{answer_of_table_size};
 
 mod emit;
 mod judge;
 
-use crate::emit::emit_records;
-use crate::judge::{LEVELS, Octets, judge_lone_value, judge_table};
-use tables::tape::RECORD_WORDS;
-use types::WireError;
-use writers::{Written, write_u32};
+use crate::emit::{emit_number, emit_records};
+use crate::judge::{judge_lone_value, judge_tape};
+use tables::LEVELS;
+use tables::tape::records_in;
+use types::{Number, WireError};
+use writers::{MAX_LENGTH, Written, has_octets};
 
-// How many octets a table's body has. More than 0x2_0000_0000 count as that many.
+// A tape, and the octets in which its spans stand. C lends them apart.
 #[derive(Clone, Copy)]
-pub enum TableSize {
-    Octets(usize),
-    Refused(WireError),
+struct Source<'a> {
+    pool: &'a [u8],
+    tape: &'a [u64],
 }
 
-const MAX_LENGTH: usize = 4294967295;
-
-// Judges the table that a tape holds, but for the length of its body. Nothing is written.
-pub fn judge_field_table(pool: &[u8], tape: &[u64]) -> TableSize
-    ensures { answer_of_table_size result ≡ sized (judge_table errata pool.now tape.now) (tape_size errata true pool.now tape.now) }
+// Judges the table that a tape holds, but for the length of its body: how many octets that has, or the first refusal. More than
+// 0x2_0000_0000 octets count as that many. Nothing is written.
+pub fn judge_field_table(pool: &[u8], tape: &[u64]) -> Result<usize, WireError>
+    ensures { or_refusal (λ n. n) result ≡ sized (judge_table errata pool.now tape.now) (tape_size errata true pool.now tape.now) }
 {
-    match judge_table(pool, tape) {
-        Octets::Size(n) => TableSize::Octets(n),
-        Octets::Refused(e) => TableSize::Refused(e),
-    }
+    judge_tape(Source { pool, tape }, true)
 }
 
 // Writes the table that a tape holds.
 pub fn write_field_table(out: &mut [u8], at: usize, pool: &[u8], tape: &[u64]) -> Written
     ensures { outcome (answer_of_written result) out.new ≡ write_table errata pool.now tape.now at out.old }
 {
-    match judge_table(pool, tape) {
-        Octets::Refused(e) => Written::Refused(e),
-        Octets::Size(n) => {
-            if MAX_LENGTH < n {
-                return Written::Refused(WireError::TooLong);
-            }
-            if out.len() < at {
-                return Written::Refused(WireError::NoSpace);
-            }
-            if out.len() - at < n + 4 {
-                return Written::Refused(WireError::NoSpace);
-            }
-            let count = tape.len() / RECORD_WORDS;
-            let next = emit_records(pool, tape, 0, count, LEVELS, true, out, at + 4);
-            write_u32(out, at, n as u32);
-            Written::Next(next)
-        }
+    let size = judge_field_table(pool, tape)?;
+    if MAX_LENGTH < size {
+        return Err(WireError::TooLong);
     }
+    if !has_octets(out, at, size + 4) {
+        return Err(WireError::NoSpace);
+    }
+    let count = records_in(tape);
+    let next = emit_records(Source { pool, tape }, 0, count, LEVELS, true, out, at + 4);
+    emit_number(out, at, Number::U32, size as u64);
+    Ok(next)
 }
 
 // Writes the value that a tape holds; its first record counts all others.
 pub fn write_field_value(out: &mut [u8], at: usize, pool: &[u8], tape: &[u64]) -> Written
     ensures { outcome (answer_of_written result) out.new ≡ write_lone_value errata pool.now tape.now at out.old }
 {
-    match judge_lone_value(pool, tape) {
-        Octets::Refused(e) => Written::Refused(e),
-        Octets::Size(n) => {
-            if MAX_LENGTH + 5 < n {
-                return Written::Refused(WireError::TooLong);
-            }
-            if out.len() < at {
-                return Written::Refused(WireError::NoSpace);
-            }
-            if out.len() - at < n {
-                return Written::Refused(WireError::NoSpace);
-            }
-            let count = tape.len() / RECORD_WORDS;
-            Written::Next(emit_records(pool, tape, 0, count, LEVELS, false, out, at))
-        }
+    let size = judge_lone_value(Source { pool, tape })?;
+    if MAX_LENGTH + 5 < size {
+        return Err(WireError::TooLong);
     }
+    if !has_octets(out, at, size) {
+        return Err(WireError::NoSpace);
+    }
+    let count = records_in(tape);
+    Ok(emit_records(Source { pool, tape }, 0, count, LEVELS, false, out, at))
 }

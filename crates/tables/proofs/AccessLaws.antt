@@ -1,8 +1,9 @@
 -- The letters of `values` are those of tables: a leaf record that a writer accepts, and so each that a reader makes, holds a value,
 -- and a table or an array holds none.
+use Rattle.std.specs.Prelude.{None}
 use mathlib.Core.Path.{◌≡◌, refl, sym, subst}
 use mathlib.Core.Bool.{Bool, true, false, ◌&&◌, cond}
-use mathlib.Core.Option.{Option, some}
+use Rattle.std.specs.Prelude.{Some}
 use mathlib.Core.List.{List, [], ◌∷◌}
 use Prim.Native.Nat.{ℕ, ◌^◌}
 use native.Mathlib.Omega.{arith}
@@ -39,14 +40,14 @@ no-leaf l b e = let z : ◌≡◌ {A = ℕ} 0 1 = cc in omega arith
 module _ (x : Words) where
   -- the words hold a value under the letter c
   abbrev Holds : ℕ → Type 0
-  Holds c = (v : FieldValue) × (value_of (values.leaf c x.first x.second) ≡ some v)
+  Holds c = (v : FieldValue) × (value_of (values.leaf c x.first x.second) ≡ Some v)
 
-  module _ (pool : List ℕ) (i : ℕ) (l : Leaf) (judged : judge_leaf l pool i x ≡ Option.none) where
+  module _ (pool : List ℕ) (i : ℕ) (l : Leaf) (judged : judge_leaf l pool i x ≡ None) where
     -- a number of k octets
     of_number : (c k : ℕ) → (ltb x.first (256 ^ k) ≡ true → eqb x.second 0 ≡ true → Holds c) → leaf (number k) ≡ leaf l → Holds c
     of_number c k h e =
         let same : l ≡ number k = cc in
-        let t = test-none (ltb x.first (256 ^ k) && eqb x.second 0) (bad_tape i) Option.none (rw same at judged) in
+        let t = test-none (ltb x.first (256 ^ k) && eqb x.second 0) (bad_tape i) None (rw same at judged) in
         let b = and-true (ltb x.first (256 ^ k)) (eqb x.second 0) t.0 in
         h b.0 b.1
 
@@ -54,7 +55,7 @@ module _ (x : Words) where
     unfolding value_of
     of-boolean e =
         let same : l ≡ boolean = cc in
-        let t = test-none (ltb x.first 2 && eqb x.second 0) (bad_tape i) Option.none (rw same at judged) in
+        let t = test-none (ltb x.first 2 && eqb x.second 0) (bad_tape i) None (rw same at judged) in
         let b = and-true (ltb x.first 2) (eqb x.second 0) t.0 in
         (value.Bool (eqb x.first 1), rw (b.0, b.1))
 
@@ -62,7 +63,7 @@ module _ (x : Words) where
     unfolding value_of
     of-decimal e =
         let same : l ≡ decimal = cc in
-        let t = test-none (ltb x.first 256 && ltb x.second (256 ^ 4)) (bad_tape i) Option.none (rw same at judged) in
+        let t = test-none (ltb x.first 256 && ltb x.second (256 ^ 4)) (bad_tape i) None (rw same at judged) in
         let b = and-true (ltb x.first 256) (ltb x.second (256 ^ 4)) t.0 in
         (value.Decimal x.first (signed 32 x.second), rw (b.0, b.1))
 
@@ -123,6 +124,6 @@ module _ (x : Words) where
         ) e
 
   -- a table or an array
-  pub container-holds-none : (c : ℕ) (named : Bool) → kind_of errata c ≡ container named → value_of (values.leaf c x.first x.second) ≡ Option.none
+  pub container-holds-none : (c : ℕ) (named : Bool) → kind_of errata c ≡ container named → value_of (values.leaf c x.first x.second) ≡ None
   unfolding value_of
-  container-holds-none c named e = by_row (λ o. value_of (values.leaf o x.first x.second) ≡ Option.none) (container named) errata c ((λ f. absurd (no-leaf _ named f)), ((λ f. absurd (no-leaf _ named f)), ((λ f. absurd (no-leaf _ named f)), ((λ f. absurd (no-leaf _ named f)), ((λ f. absurd (no-leaf _ named f)), ((λ f. absurd (no-leaf _ named f)), ((λ f. absurd (no-leaf _ named f)), ((λ f. absurd (no-leaf _ named f)), ((λ f. absurd (no-leaf _ named f)), ((λ f. absurd (no-leaf _ named f)), ((λ f. absurd (no-leaf _ named f)), ((λ f. absurd (no-leaf _ named f)), ((λ f. absurd (no-leaf _ named f)), ((λ f. absurd (no-leaf _ named f)), ((λ f. absurd (no-leaf _ named f)), ((λ f. refl), ((λ f. refl), (λ f. let z : ◌≡◌ {A = ℕ} 0 1 = cc in omega arith)))))))))))))))))) e
+  container-holds-none c named e = by_row (λ o. value_of (values.leaf o x.first x.second) ≡ None) (container named) errata c ((λ f. absurd (no-leaf _ named f)), ((λ f. absurd (no-leaf _ named f)), ((λ f. absurd (no-leaf _ named f)), ((λ f. absurd (no-leaf _ named f)), ((λ f. absurd (no-leaf _ named f)), ((λ f. absurd (no-leaf _ named f)), ((λ f. absurd (no-leaf _ named f)), ((λ f. absurd (no-leaf _ named f)), ((λ f. absurd (no-leaf _ named f)), ((λ f. absurd (no-leaf _ named f)), ((λ f. absurd (no-leaf _ named f)), ((λ f. absurd (no-leaf _ named f)), ((λ f. absurd (no-leaf _ named f)), ((λ f. absurd (no-leaf _ named f)), ((λ f. absurd (no-leaf _ named f)), ((λ f. refl), ((λ f. refl), (λ f. let z : ◌≡◌ {A = ℕ} 0 1 = cc in omega arith)))))))))))))))))) e

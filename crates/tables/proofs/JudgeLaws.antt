@@ -1,7 +1,7 @@
 -- A tape that passes the writer's judgement means a forest that fits, with a record for each value.
 use mathlib.Core.Path.{◌≡◌, refl, ap, ◌∙◌}
 use mathlib.Core.Bool.{Bool, true, false, ◌&&◌, cond}
-use mathlib.Core.Option.{Option}
+use Rattle.std.specs.Prelude.{None}
 use mathlib.Core.List.{List, [], ◌∷◌, ◌++◌}
 use Prim.Native.Nat.{ℕ, zero, suc, ◌+◌, ◌-◌, ◌^◌, ◌≤◌, ◌<◌}
 use native.Mathlib.Omega.{arith}
@@ -47,17 +47,17 @@ letter-octet (l ∷ ls) c a e = go (letter-octet ls c a.1) (eqb c l.octet) refl 
     go ih true q h = omega (arith, eqb_is c l.octet q, a.0)
     go ih false q h = ih h
 
-name-fit : (b : Bool) (pool : List ℕ) (i : ℕ) (n : Span) → judge_name b pool i n ≡ Option.none → FitName b (octets_of pool n)
+name-fit : (b : Bool) (pool : List ℕ) (i : ℕ) (n : Span) → judge_name b pool i n ≡ None → FitName b (octets_of pool n)
 name-fit true pool i n e = short-fit (octets_of pool n) (test-none (in_pool pool n.start n.len) (bad_tape i) (judge_short_str (octets_of pool n)) e).1
 name-fit false pool i n e =
-    let a = test-none (eqb n.start 0 && eqb n.len 0) (bad_tape i) Option.none e in
+    let a = test-none (eqb n.start 0 && eqb n.len 0) (bad_tape i) None e in
     let z : n.len ≡ 0 = eqb_is n.len 0 (and-true (eqb n.start 0) (eqb n.len 0) a.0).1 in
     ap (λ (k : ℕ). take k (drop n.start pool)) z
 
-passes : (a b : Bool) (i : ℕ) → test (a && b) (bad_tape i) Option.none ≡ Option.none → (a ≡ true) × (b ≡ true)
-passes a b i e = and-true a b (test-none (a && b) (bad_tape i) Option.none e).0
+passes : (a b : Bool) (i : ℕ) → test (a && b) (bad_tape i) None ≡ None → (a ≡ true) × (b ≡ true)
+passes a b i e = and-true a b (test-none (a && b) (bad_tape i) None e).0
 
-leaf-fit : (l : Leaf) (pool : List ℕ) (i : ℕ) (x : Words) → judge_leaf l pool i x ≡ Option.none → length (leaf_octets l (leaf_meaning l pool x)) < 256 ^ 4 + 4
+leaf-fit : (l : Leaf) (pool : List ℕ) (i : ℕ) (x : Words) → judge_leaf l pool i x ≡ None → length (leaf_octets l (leaf_meaning l pool x)) < 256 ^ 4 + 4
     → FitLeaf l (leaf_meaning l pool x)
 leaf-fit (number k) pool i x e h =
     let a = passes (ltb x.first (256 ^ k)) (eqb x.second 0) i e in
@@ -82,7 +82,7 @@ no-records zero = refl
 no-records (suc k) = refl
 
 module _ (letters : Letters) where
-  value-fit : (k : Kind) (d : ℕ) (pool : List ℕ) (i : ℕ) (x : Words) (n left : ℕ) (u : TableMeaning) → is_known k ≡ true → has_level k d ≡ true → judge_payload k pool i x ≡ Option.none
+  value-fit : (k : Kind) (d : ℕ) (pool : List ℕ) (i : ℕ) (x : Words) (n left : ℕ) (u : TableMeaning) → is_known k ≡ true → has_level k d ≡ true → judge_payload k pool i x ≡ None
       → count_ok k n left ≡ true → (n ≡ 0 → u ≡ none) → (length (body letters (is_table k) u) < 256 ^ 4 → FitForest letters (is_table k) (d - 1) u)
       → length (payload_octets k (payload_meaning k pool x) (body letters (is_table k) u)) < 256 ^ 4 + 4
       → FitValue letters k d (payload_meaning k pool x) u (λ b' d'. FitForest letters b' d' u)
@@ -101,29 +101,29 @@ module _ (letters : Letters) where
   pub record Passed (d : ℕ) (b : Bool) (pool : List ℕ) (i : ℕ) (r : Record) (left : ℕ) : Type 0 where
     pub known : is_known (kind_of letters r.letter) ≡ true
     pub level : has_level (kind_of letters r.letter) d ≡ true
-    pub name : judge_name b pool i r.name ≡ Option.none
-    pub payload : judge_payload (kind_of letters r.letter) pool i r.payload ≡ Option.none
+    pub name : judge_name b pool i r.name ≡ None
+    pub payload : judge_payload (kind_of letters r.letter) pool i r.payload ≡ None
     pub count : count_ok (kind_of letters r.letter) r.beneath left ≡ true
 
-  pub passed : (d : ℕ) (b : Bool) (pool : List ℕ) (i : ℕ) (r : Record) (left : ℕ) → judge_record letters d b pool i r left ≡ Option.none → Passed d b pool i r left
+  pub passed : (d : ℕ) (b : Bool) (pool : List ℕ) (i : ℕ) (r : Record) (left : ℕ) → judge_record letters d b pool i r left ≡ None → Passed d b pool i r left
   unfolding judge_record
   passed d b pool i r left e =
       let k = kind_of letters r.letter in
-      let o5 = test (count_ok k r.beneath left) (bad_tape i) Option.none in
+      let o5 = test (count_ok k r.beneath left) (bad_tape i) None in
       let o4 = or_else (judge_payload k pool i r.payload) o5 in
       let o3 = or_else (judge_name b pool i r.name) o4 in
       let a1 = test-none (is_known k) (bad_tape i) (test (has_level k d) too_deep o3) e in
       let a2 = test-none (has_level k d) too_deep o3 a1.1 in
       let a3 = or_else-none (judge_name b pool i r.name) o4 a2.1 in
       let a4 = or_else-none (judge_payload k pool i r.payload) o5 a3.1 in
-      let a5 = test-none (count_ok k r.beneath left) (bad_tape i) Option.none a4.1 in
+      let a5 = test-none (count_ok k r.beneath left) (bad_tape i) None a4.1 in
       record { known = a1.0; level = a2.0; name = a3.0; payload = a4.0; count = a5.0 }
 
   -- and of those beneath and behind it
-  pub judge-fuel-passed : (k d : ℕ) (b : Bool) (pool : List ℕ) (i : ℕ) (r : Record) (rs : List Record) → judge_with_fuel letters (suc k) d b pool i (r ∷ rs) ≡ Option.none
+  pub judge-fuel-passed : (k d : ℕ) (b : Bool) (pool : List ℕ) (i : ℕ) (r : Record) (rs : List Record) → judge_with_fuel letters (suc k) d b pool i (r ∷ rs) ≡ None
       → Passed d b pool i r (length rs)
-      × (judge_with_fuel letters k (d - 1) (is_table (kind_of letters r.letter)) pool (i + 1) (take r.beneath rs) ≡ Option.none)
-      × (judge_with_fuel letters k d b pool (i + 1 + r.beneath) (drop r.beneath rs) ≡ Option.none)
+      × (judge_with_fuel letters k (d - 1) (is_table (kind_of letters r.letter)) pool (i + 1) (take r.beneath rs) ≡ None)
+      × (judge_with_fuel letters k d b pool (i + 1 + r.beneath) (drop r.beneath rs) ≡ None)
   unfolding judge_with_fuel
   judge-fuel-passed k d b pool i r rs e =
       let o1 = judge_with_fuel letters k (d - 1) (is_table (kind_of letters r.letter)) pool (i + 1) (take r.beneath rs) in
@@ -137,7 +137,7 @@ module _ (letters : Letters) where
   unflatten-nil zero pool rs n e = refl
   unflatten-nil (suc k) pool rs n e = rw e
 
-  pub judge-fit : (k d : ℕ) (b : Bool) (pool : List ℕ) (i : ℕ) (rs : List Record) → Octets letters → judge_with_fuel letters k d b pool i rs ≡ Option.none
+  pub judge-fit : (k d : ℕ) (b : Bool) (pool : List ℕ) (i : ℕ) (rs : List Record) → Octets letters → judge_with_fuel letters k d b pool i rs ≡ None
       → length (body letters b (meaning_of letters pool (unflatten k rs))) < 256 ^ 4 + 5 → FitForest letters b d (meaning_of letters pool (unflatten k rs))
   unfolding unflatten meaning_of body
   judge-fit zero d b pool i rs o e h = tt
@@ -159,7 +159,7 @@ module _ (letters : Letters) where
         judge-fit k d b pool (i + 1 + r.beneath) (drop r.beneath rs) o a.2 (omega arith),
       )
 
-  pub judge-counts : (k d : ℕ) (b : Bool) (pool : List ℕ) (i : ℕ) (rs : List Record) → judge_with_fuel letters k d b pool i rs ≡ Option.none → CountsFit k rs
+  pub judge-counts : (k d : ℕ) (b : Bool) (pool : List ℕ) (i : ℕ) (rs : List Record) → judge_with_fuel letters k d b pool i rs ≡ None → CountsFit k rs
   judge-counts zero d b pool i rs e = tt
   judge-counts (suc k) d b pool i [] e = tt
   judge-counts (suc k) d b pool i (r ∷ rs) e =
@@ -170,7 +170,7 @@ module _ (letters : Letters) where
       )
 
   -- A whole tape
-  pub table-fit : (pool tape : List ℕ) → Octets letters → judge_table letters pool tape ≡ Option.none → length (body letters true (tape_meaning letters pool tape)) < 256 ^ 4
+  pub table-fit : (pool tape : List ℕ) → Octets letters → judge_table letters pool tape ≡ None → length (body letters true (tape_meaning letters pool tape)) < 256 ^ 4
       → FitForest letters true 15 (tape_meaning letters pool tape)
   unfolding judge_table judge_records tape_meaning
   table-fit pool tape o e h =
@@ -178,7 +178,7 @@ module _ (letters : Letters) where
       judge-fit (length rs) 15 true pool 0 rs o (or_else-none (judge_with_fuel letters (length rs) 15 true pool 0 rs) _ e).0 (omega arith)
 
   -- has a record for each value
-  pub table-size : (pool tape : List ℕ) → judge_table letters pool tape ≡ Option.none → size (tape_meaning letters pool tape) ≡ length (records tape_records tape)
+  pub table-size : (pool tape : List ℕ) → judge_table letters pool tape ≡ None → size (tape_meaning letters pool tape) ≡ length (records tape_records tape)
   unfolding judge_table judge_records tape_meaning
   table-size pool tape e =
       let rs = records tape_records tape in
@@ -202,12 +202,12 @@ module _ (letters : Letters) where
         judge-agree k j d b pool (i + 1 + r.beneath) (drop r.beneath rs) (omega arith) (omega arith),
       )
 
-  pub judge-nil : (k d : ℕ) (b : Bool) (pool : List ℕ) (i : ℕ) → judge_with_fuel letters k d b pool i [] ≡ Option.none
+  pub judge-nil : (k d : ℕ) (b : Bool) (pool : List ℕ) (i : ℕ) → judge_with_fuel letters k d b pool i [] ≡ None
   unfolding judge_with_fuel
   judge-nil zero d b pool i = refl
   judge-nil (suc k) d b pool i = refl
 
-  pub judge-end : (d : ℕ) (b : Bool) (pool : List ℕ) (i : ℕ) → judge_records letters d b pool i [] ≡ Option.none
+  pub judge-end : (d : ℕ) (b : Bool) (pool : List ℕ) (i : ℕ) → judge_records letters d b pool i [] ≡ None
   unfolding judge_records judge_with_fuel
   judge-end d b pool i = refl
 
@@ -226,8 +226,8 @@ module _ (letters : Letters) where
       )
 
   -- A lone value that passes fits
-  lone-judge-fuel : (pool : List ℕ) (r : Record) (rs : List Record) → judge_lone letters pool (r ∷ rs) ≡ Option.none
-      → (judge_with_fuel letters (suc (length rs)) 15 false pool 0 (r ∷ rs) ≡ Option.none) × (r.beneath ≡ length rs)
+  lone-judge-fuel : (pool : List ℕ) (r : Record) (rs : List Record) → judge_lone letters pool (r ∷ rs) ≡ None
+      → (judge_with_fuel letters (suc (length rs)) 15 false pool 0 (r ∷ rs) ≡ None) × (r.beneath ≡ length rs)
   unfolding judge_with_fuel judge_records
   lone-judge-fuel pool r rs e =
       let k = is_table (kind_of letters r.letter) in
@@ -236,35 +236,35 @@ module _ (letters : Letters) where
       let n = eqb_is r.beneath (length rs) b.0 in
       let t : take r.beneath rs ≡ rs = take_all r.beneath rs (omega arith) in
       let d : drop r.beneath rs ≡ [] = length-zero (drop r.beneath rs) (omega (arith, length-drop r.beneath rs)) in
-      let x : judge_with_fuel letters (length rs) (15 - 1) k pool (0 + 1) (take r.beneath rs) ≡ Option.none = rw t b.1 in
-      let y : judge_with_fuel letters (length rs) 15 false pool (0 + 1 + r.beneath) (drop r.beneath rs) ≡ Option.none = rw d (judge-nil (length rs) 15 false pool (0 + 1 + r.beneath)) in
+      let x : judge_with_fuel letters (length rs) (15 - 1) k pool (0 + 1) (take r.beneath rs) ≡ None = rw t b.1 in
+      let y : judge_with_fuel letters (length rs) 15 false pool (0 + 1 + r.beneath) (drop r.beneath rs) ≡ None = rw d (judge-nil (length rs) 15 false pool (0 + 1 + r.beneath)) in
       (rw (a.0, x, y), n)
 
-  pub lone-fit : (pool tape : List ℕ) → Octets letters → judge_lone_value letters pool tape ≡ Option.none → length (body letters false (tape_meaning letters pool tape)) < 256 ^ 4 + 5
+  pub lone-fit : (pool tape : List ℕ) → Octets letters → judge_lone_value letters pool tape ≡ None → length (body letters false (tape_meaning letters pool tape)) < 256 ^ 4 + 5
       → FitForest letters false 15 (tape_meaning letters pool tape)
   unfolding judge_lone_value tape_meaning
   lone-fit pool tape o e h = go (records tape_records tape) (or_else-none (judge_lone letters pool (records tape_records tape)) _ e).0 h
     where
-      go : (rs : List Record) → judge_lone letters pool rs ≡ Option.none → length (body letters false (meaning_of letters pool (forest_of rs))) < 256 ^ 4 + 5
+      go : (rs : List Record) → judge_lone letters pool rs ≡ None → length (body letters false (meaning_of letters pool (forest_of rs))) < 256 ^ 4 + 5
           → FitForest letters false 15 (meaning_of letters pool (forest_of rs))
       go [] e h = let z : ◌≡◌ {A = ℕ} 0 1 = cc in absurd (omega arith)
       go (r ∷ rs) e h = judge-fit (suc (length rs)) 15 false pool 0 (r ∷ rs) o (lone-judge-fuel pool r rs e).0 h
 
   -- its records pass as those of an array of one value do
-  pub lone-passes : (pool tape : List ℕ) → judge_lone_value letters pool tape ≡ Option.none → judge_records letters 15 false pool 0 (records tape_records tape) ≡ Option.none
+  pub lone-passes : (pool tape : List ℕ) → judge_lone_value letters pool tape ≡ None → judge_records letters 15 false pool 0 (records tape_records tape) ≡ None
   unfolding judge_lone_value judge_records
   lone-passes pool tape e = go (records tape_records tape) (or_else-none (judge_lone letters pool (records tape_records tape)) _ e).0
     where
-      go : (rs : List Record) → judge_lone letters pool rs ≡ Option.none → judge_with_fuel letters (length rs) 15 false pool 0 rs ≡ Option.none
+      go : (rs : List Record) → judge_lone letters pool rs ≡ None → judge_with_fuel letters (length rs) 15 false pool 0 rs ≡ None
       go [] e = let z : ◌≡◌ {A = ℕ} 0 1 = cc in absurd (omega arith)
       go (r ∷ rs) e = (lone-judge-fuel pool r rs e).0
 
   -- has a record for each value
-  pub lone-size : (pool tape : List ℕ) → judge_lone_value letters pool tape ≡ Option.none → size (tape_meaning letters pool tape) ≡ length (records tape_records tape)
+  pub lone-size : (pool tape : List ℕ) → judge_lone_value letters pool tape ≡ None → size (tape_meaning letters pool tape) ≡ length (records tape_records tape)
   unfolding judge_lone_value tape_meaning
   lone-size pool tape e = go (records tape_records tape) (or_else-none (judge_lone letters pool (records tape_records tape)) _ e).0
     where
-      go : (rs : List Record) → judge_lone letters pool rs ≡ Option.none → size (meaning_of letters pool (forest_of rs)) ≡ length rs
+      go : (rs : List Record) → judge_lone letters pool rs ≡ None → size (meaning_of letters pool (forest_of rs)) ≡ length rs
       go [] e = let z : ◌≡◌ {A = ℕ} 0 1 = cc in absurd (omega arith)
       go (r ∷ rs) e =
           size-meaning letters pool (forest_of (r ∷ rs))
@@ -278,11 +278,11 @@ module _ (letters : Letters) where
     pub beneath : TableMeaning
     pub same : m ≡ item name letter payload beneath none
 
-  pub lone-one : (pool tape : List ℕ) → judge_lone_value letters pool tape ≡ Option.none → One (tape_meaning letters pool tape)
+  pub lone-one : (pool tape : List ℕ) → judge_lone_value letters pool tape ≡ None → One (tape_meaning letters pool tape)
   unfolding judge_lone_value tape_meaning unflatten meaning_of
   lone-one pool tape e = go (records tape_records tape) (or_else-none (judge_lone letters pool (records tape_records tape)) _ e).0
     where
-      go : (rs : List Record) → judge_lone letters pool rs ≡ Option.none → One (meaning_of letters pool (forest_of rs))
+      go : (rs : List Record) → judge_lone letters pool rs ≡ None → One (meaning_of letters pool (forest_of rs))
       go [] e = let z : ◌≡◌ {A = ℕ} 0 1 = cc in absurd (omega arith)
       go (r ∷ rs) e =
           let n = (lone-judge-fuel pool r rs e).1 in

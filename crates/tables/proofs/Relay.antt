@@ -1,7 +1,7 @@
 -- What a reader puts on the tape passes a writer's judgement over the same octets.
 use mathlib.Core.Path.{◌≡◌, refl, sym, ap, ◌∙◌, subst}
 use mathlib.Core.Bool.{Bool, true, false}
-use mathlib.Core.Option.{Option}
+use Rattle.std.specs.Prelude.{None}
 use mathlib.Core.List.{List, ◌++◌, append-nil}
 use Prim.Native.Nat.{ℕ, zero, suc, ◌+◌, ◌-◌, ◌^◌, ◌≤◌, ◌<◌, min}
 use native.Mathlib.Omega.{arith}
@@ -28,7 +28,7 @@ use Rattle.tables.proofs.TapeLaws.{length-flatten}
 use Rattle.tables.proofs.JudgeLaws.{judge-nil}
 
 module _ (s : List ℕ) (octet : Octets s) where
-  short-judged : (i p : ℕ) (v : Span) (q : ℕ) → short_str_at s p ≡ given v q → judge_name true s i v ≡ Option.none
+  short-judged : (i p : ℕ) (v : Span) (q : ℕ) → short_str_at s p ≡ given v q → judge_name true s i v ≡ None
   unfolding short_str_at
   short-judged i p v q e =
       then-go (uint_at 1 s p) _ v q e
@@ -42,12 +42,12 @@ module _ (s : List ℕ) (octet : Octets s) where
       let l = length-take-le n (drop r s) (omega (arith, a.0, a.1, length-drop r s)) in
       rw (← (given-value w v t q b.1), a.2, leb_yes (r + n) (length s) (omega (arith, a.0, a.1)), leb_yes (length (take n (drop r s))) 255 (omega arith), u)))
 
-  name-judged : (b : Bool) (i p : ℕ) (v : Span) (q : ℕ) → name_at b s p ≡ given v q → judge_name b s i v ≡ Option.none
+  name-judged : (b : Bool) (i p : ℕ) (v : Span) (q : ℕ) → name_at b s p ≡ given v q → judge_name b s i v ≡ None
   unfolding name_at
   name-judged true i p v q e = short-judged i p v q e
   name-judged false i p v q e = rw (← (given-value no_name v p q e))
 
-  leaf-judged : (l : Leaf) (i p : ℕ) (x : Words) (q : ℕ) → leaf_at l s p ≡ given x q → judge_leaf l s i x ≡ Option.none
+  leaf-judged : (l : Leaf) (i p : ℕ) (x : Words) (q : ℕ) → leaf_at l s p ≡ given x q → judge_leaf l s i x ≡ None
   unfolding leaf_at
   leaf-judged (number k) i p x q e =
       then-go (uint_at k s p) _ x q e
@@ -78,17 +78,17 @@ module _ (s : List ℕ) (octet : Octets s) where
     record Sound (d : ℕ) (k : Kind) (v : Value) : Type 0 where
       known : is_known k ≡ true
       level : has_level k d ≡ true
-      payload : (i : ℕ) → judge_payload k s i v.payload ≡ Option.none
+      payload : (i : ℕ) → judge_payload k s i v.payload ≡ None
       count : (left : ℕ) → size v.beneath ≤ left → count_ok k (size v.beneath) left ≡ true
-      below : (i f : ℕ) → length (flatten v.beneath) ≤ f → judge_with_fuel letters f (d - 1) (is_table k) s i (flatten v.beneath) ≡ Option.none
+      below : (i f : ℕ) → length (flatten v.beneath) ≤ f → judge_with_fuel letters f (d - 1) (is_table k) s i (flatten v.beneath) ≡ None
 
     abbrev SoundValues : ℕ → Type 0
     SoundValues d = (p room : ℕ) (v : Value) (n : ℕ) → value_at letters d s p room ≡ given v n → Sound d (kind_of letters v.letter) v
 
-    item-judged : (d : ℕ) (b : Bool) (i k : ℕ) (name : Span) (v : Value) (after : LocatedTable) → judge_name b s i name ≡ Option.none → Sound d (kind_of letters v.letter) v
-        → ((i' k' : ℕ) → length (flatten after) ≤ k' → judge_with_fuel letters k' d b s i' (flatten after) ≡ Option.none)
+    item-judged : (d : ℕ) (b : Bool) (i k : ℕ) (name : Span) (v : Value) (after : LocatedTable) → judge_name b s i name ≡ None → Sound d (kind_of letters v.letter) v
+        → ((i' k' : ℕ) → length (flatten after) ≤ k' → judge_with_fuel letters k' d b s i' (flatten after) ≡ None)
         → length (flatten (item name v.letter v.payload v.beneath after)) ≤ k
-        → judge_with_fuel letters k d b s i (flatten (item name v.letter v.payload v.beneath after)) ≡ Option.none
+        → judge_with_fuel letters k d b s i (flatten (item name v.letter v.payload v.beneath after)) ≡ None
     unfolding flatten judge_with_fuel judge_record
     item-judged d b i zero name v after en sv rest h = absurd (omega arith)
     item-judged d b i (suc k) name v after en sv rest h =
@@ -110,7 +110,7 @@ module _ (s : List ℕ) (octet : Octets s) where
         )
 
     entries-fuel-judged : (d : ℕ) → SoundValues d → (b : Bool) (f p end room : ℕ) (t : LocatedTable) (n : ℕ) → entries_with_fuel (value_at letters d) b f s p end room ≡ given t n
-        → (i k : ℕ) → length (flatten t) ≤ k → judge_with_fuel letters k d b s i (flatten t) ≡ Option.none
+        → (i k : ℕ) → length (flatten t) ≤ k → judge_with_fuel letters k d b s i (flatten t) ≡ None
     unfolding flatten
     entries-fuel-judged d sound b zero p end room t n e i k h =
         rw (← (given-value none t p n (sym (entries-fuel-zero (value_at letters d) b s p end room) ∙ e))) (judge-nil letters k d b s i)
@@ -124,7 +124,7 @@ module _ (s : List ℕ) (octet : Octets s) where
         then-go (entries_with_fuel (value_at letters d) b f s r end (room - suc (size v.beneath))) _ t n h2
         (λ after u e3 h3.
         let w = given-value (item name v.letter v.payload v.beneath after) t u n h3 in
-        subst (λ (x : LocatedTable). length (flatten x) ≤ k → judge_with_fuel letters k d b s i (flatten x) ≡ Option.none) w
+        subst (λ (x : LocatedTable). length (flatten x) ≤ k → judge_with_fuel letters k d b s i (flatten x) ≡ None) w
         (item-judged d b i k name v after (name-judged b i p name q e1) (sound q room v r e2)
         (λ i' k' h'. entries-fuel-judged d sound b f r end (room - suc (size v.beneath)) after u e3 i' k' h'))
         h))))
@@ -132,7 +132,7 @@ module _ (s : List ℕ) (octet : Octets s) where
         rw (← (given-value none t p n (sym (entries-fuel-end (value_at letters d) b s (suc f) p end room (omega (arith, no_leb (suc p) end x))) ∙ e))) (judge-nil letters k d b s i))
 
     container-judged : (d : ℕ) → SoundValues d → (b : Bool) (p room : ℕ) (t : LocatedTable) (n : ℕ) → container_at (value_at letters d) b s p room ≡ given t n
-        → (i k : ℕ) → length (flatten t) ≤ k → judge_with_fuel letters k d b s i (flatten t) ≡ Option.none
+        → (i k : ℕ) → length (flatten t) ≤ k → judge_with_fuel letters k d b s i (flatten t) ≡ None
     unfolding container_at entries_at
     container-judged d sound b p room t n e i k h =
         then-go (long_str_at s p) _ t n e (λ v end e1 h1. entries-fuel-judged d sound b (end - v.start) v.start end room t n h1 i k h)
@@ -140,7 +140,7 @@ module _ (s : List ℕ) (octet : Octets s) where
     -- what is shown of the readers beneath
     abbrev SoundBelow : ℕ → Type 0
     SoundBelow d = (b : Bool) (p room : ℕ) (t : LocatedTable) (n : ℕ) → below_at letters d b s p room ≡ given t n
-        → (i k : ℕ) → length (flatten t) ≤ k → judge_with_fuel letters k (d - 1) b s i (flatten t) ≡ Option.none
+        → (i k : ℕ) → length (flatten t) ≤ k → judge_with_fuel letters k (d - 1) b s i (flatten t) ≡ None
 
     payload-sound : (d : ℕ) → SoundBelow d → (c : ℕ) (k : Kind) (p room : ℕ) (v : Value) (n : ℕ) → payload_at d (below_at letters d) c k s p room ≡ given v n
         → (c ≡ v.letter) × Sound d k v
@@ -192,12 +192,12 @@ module _ (s : List ℕ) (octet : Octets s) where
         rw m (container-judged d (value-sound d) b p room t n e i k h))
 
     -- a table that is read: its records pass
-    pub table-relayed : (p room : ℕ) (t : LocatedTable) (n : ℕ) → table_at letters s p room ≡ given t n → judge_records letters 15 true s 0 (flatten t) ≡ Option.none
+    pub table-relayed : (p room : ℕ) (t : LocatedTable) (n : ℕ) → table_at letters s p room ≡ given t n → judge_records letters 15 true s 0 (flatten t) ≡ None
     unfolding table_at judge_records
     table-relayed p room t n e = container-judged 15 (value-sound 15) true p room t n e 0 (length (flatten t)) (omega arith)
 
     -- and a lone value's
-    pub value-relayed : (p room : ℕ) (t : LocatedTable) (n : ℕ) → lone_value_at letters s p room ≡ given t n → judge_lone letters s (flatten t) ≡ Option.none
+    pub value-relayed : (p room : ℕ) (t : LocatedTable) (n : ℕ) → lone_value_at letters s p room ≡ given t n → judge_lone letters s (flatten t) ≡ None
     unfolding lone_value_at flatten judge_record judge_records
     value-relayed p room t n e =
         then-go (value_at letters 15 s p room) _ t n e

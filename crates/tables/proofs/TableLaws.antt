@@ -3,7 +3,7 @@
 -- a writer, and means what was read. A table has at most as many records as octets less 4.
 use mathlib.Core.Path.{◌≡◌, refl, ap, ◌∙◌}
 use mathlib.Core.Bool.{true, false}
-use mathlib.Core.Option.{Option}
+use Rattle.std.specs.Prelude.{None}
 use mathlib.Core.List.{List, [], ◌∷◌, ◌++◌, append-nil}
 use Prim.Native.Nat.{ℕ, zero, suc, ◌+◌, ◌-◌, ◌*◌, ◌/◌, ◌%◌, ◌^◌, ◌≤◌, ◌<◌}
 use native.Mathlib.Omega.{arith}
@@ -94,8 +94,8 @@ module _ (letters : Letters) where
     abbrev meaning : TableMeaning
     meaning = tape_meaning letters pool tape
 
-    module _ (accepted : table_refusal letters pool tape ≡ Option.none) where
-      judged : judge_table letters pool tape ≡ Option.none
+    module _ (accepted : table_refusal letters pool tape ≡ None) where
+      judged : judge_table letters pool tape ≡ None
       judged = (or_else-none (judge_table letters pool tape) _ accepted).0
 
       small : length (body letters true meaning) < 256 ^ 4
@@ -113,8 +113,8 @@ module _ (letters : Letters) where
       pub table-truncated : (s : List ℕ) (p room : ℕ) → Cut s p (table_octets letters meaning) → table_at letters s p room ≡ refused truncated
       table-truncated s p room c = table-cut letters meaning room small c
 
-    module _ (accepted : lone_refusal letters pool tape ≡ Option.none) where
-      judged_lone : judge_lone_value letters pool tape ≡ Option.none
+    module _ (accepted : lone_refusal letters pool tape ≡ None) where
+      judged_lone : judge_lone_value letters pool tape ≡ None
       judged_lone = (or_else-none (judge_lone_value letters pool tape) _ accepted).0
 
       fit : FitForest letters false 15 meaning
@@ -170,11 +170,11 @@ module _ (letters : Letters) where
     whole : length (tape_of t) % 6 ≡ 0
     whole = omega (arith, length-tape t)
 
-    pub table-accepted : table_at letters s p room ≡ given t n → (judge_table letters s (tape_of t) ≡ Option.none) × (tape_meaning letters s (tape_of t) ≡ meaning_of letters s t)
+    pub table-accepted : table_at letters s p room ≡ given t n → (judge_table letters s (tape_of t) ≡ None) × (tape_meaning letters s (tape_of t) ≡ meaning_of letters s t)
     unfolding judge_table
     table-accepted e = (rw (records-tape t, table-relayed s octet letters p room t n e, whole), means)
 
-    pub value-accepted : lone_value_at letters s p room ≡ given t n → (judge_lone_value letters s (tape_of t) ≡ Option.none) × (tape_meaning letters s (tape_of t) ≡ meaning_of letters s t)
+    pub value-accepted : lone_value_at letters s p room ≡ given t n → (judge_lone_value letters s (tape_of t) ≡ None) × (tape_meaning letters s (tape_of t) ≡ meaning_of letters s t)
     unfolding judge_lone_value
     value-accepted e = (rw (records-tape t, value-relayed s octet letters p room t n e, whole), means)
 

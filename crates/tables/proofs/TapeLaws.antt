@@ -4,18 +4,20 @@ use mathlib.Core.Bool.{Bool}
 use mathlib.Core.List.{List, [], ◌∷◌, ◌++◌, append_assoc, IsPrefix}
 use Prim.Native.Nat.{ℕ, zero, suc, ◌+◌, ◌*◌, ◌/◌, ◌≤◌, ◌<◌}
 use native.Mathlib.Omega.{arith}
-use native.Mathlib.Nat.{zero-add, add-zero}
+use native.Mathlib.Nat.{add-zero}
 use lib.ListN.{length, take, drop, get_or, length-append, length-take, length-drop, take-append-drop}
-use lib.Seq.{length-take-le, take-append_seam, drop-append_seam, take_at, drop_at, get_or-take, get_or-drop}
+use lib.Seq.{drop-drop, length-take-le, take-append_seam, drop-append_seam, take_at, drop_at, get_or-take, get_or-drop}
 use Rattle.types.specs.Memory.{splice}
 use Rattle.types.specs.Records.{RecordFormat, concat_map, first_records}
+use Rattle.types.proofs.Splice.{splice-head}
 use Rattle.types.proofs.Standing.{length-zero}
 use Rattle.types.proofs.Tests.{leb_yes, leb_no}
 use Rattle.types.specs.Answer.{bad_tape}
 use mathlib.Core.Logic.{inl, inr}
 use Rattle.tables.specs.Letters.{Letters}
 use Rattle.tables.specs.Forest.{none, item, size, words, LocatedTable, TableMeaning, meaning_of}
-use Rattle.tables.specs.Tape.{Record, record_at, flatten, unflatten, forest_of}
+use Rattle.std.specs.Simd.{first_chunks}
+use Rattle.tables.specs.Tape.{Record, tape_records, record_at, flatten, unflatten, forest_of}
 use Rattle.tables.proofs.Fit.{place_forest}
 
 pub length-flatten : (t : LocatedTable) → length (flatten t) ≡ size t
@@ -106,10 +108,6 @@ module _ {R : Type 0} (C : RecordFormat R) (sizes : (r : R) → length (C.words 
       let i = first-concat_map rs ws n (omega arith) in
       rw (a, t, d, back r) (i.0, ap (λ (k : List R). r ∷ k) i.1)
 
-  pub splice-head : (xs l : List ℕ) → splice 0 xs l ≡ xs ++ drop (length xs) l
-  unfolding splice
-  splice-head xs l = rw (zero-add (length xs))
-
   pub held : (rs : List R) (old : List ℕ) (n : ℕ) → length rs ≤ n → IsPrefix rs (first_records C n (splice 0 (concat_map C.words rs) old))
   held rs old n h = rw (splice-head (concat_map C.words rs) old) (first-concat_map rs (drop (length (concat_map C.words rs)) old) n h)
 
@@ -161,3 +159,13 @@ record-there tape k h = rw (leb_yes (suc k) (length tape / 6) h) (ap inl (λ i. 
 pub record-missing : (tape : List ℕ) (k : ℕ) → length tape / 6 ≤ k → record_at tape k ≡ inr (bad_tape k)
 unfolding record_at
 record-missing tape k h = rw (leb_no (suc k) (length tape / 6) (omega arith))
+
+-- a record by its words, which are one of the tape's chunks
+chunk-at : (tape : List ℕ) (n k : ℕ) (d : List ℕ) → k < n → get_or (first_chunks 6 n tape) k d ≡ take 6 (drop (k * 6) tape)
+chunk-at tape zero k d h = absurd (omega arith)
+chunk-at tape (suc n) zero d h = refl
+chunk-at tape (suc n) (suc k) d h = chunk-at (drop 6 tape) n k d (omega arith) ∙ ap (take 6) (drop-drop (k * 6) 6 tape ∙ ap (λ (i : ℕ). drop i tape) (omega arith))
+
+pub record-in_chunks : (tape xs d : List ℕ) (k : ℕ) → k < length tape / 6 → xs ≡ get_or (first_chunks 6 (length tape / 6) tape) k d → inl (tape_records.read xs) ≡ record_at tape k
+unfolding record_at
+record-in_chunks tape xs d k h e = rw (leb_yes (suc k) (length tape / 6) h, e, chunk-at tape (length tape / 6) k d h)

@@ -5,6 +5,7 @@ use Rattle.types.specs.Answer.{Answer, Refusal, given, refused, bad_tape, and_th
 use Rattle.types.specs.Memory.{splice, Outcome, outcome}
 use Rattle.types.specs.Records.{RecordFormat, concat_map, record_count}
 use Rattle.types.specs.declared.Span.{Span}
+use Rattle.tables.specs.declared.WithCount as code
 use Rattle.tables.specs.Letters.{Letters}
 use Rattle.tables.specs.Forest.{none, item, size, Words, words, LocatedTable}
 use Rattle.tables.specs.Reading.{table_at, lone_value_at}
@@ -57,10 +58,9 @@ pub record WithTape (A : Type 0) : Type 0 where
   pub value : A
   pub tape : List Record
 
--- what is answered of it: the value, with the number of its records
-pub record WithCount (A : Type 0) : Type 0 where
-  pub value : A
-  pub count : ℕ
+-- what is answered of it, the code's: the value, with the number of its records
+abbrev pub WithCount : Type 0 → Type 0
+WithCount A = code.WithCount A
 
 -- the records that are free
 abbrev pub room_of : ℕ → List ℕ → ℕ

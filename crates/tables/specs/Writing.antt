@@ -1,6 +1,6 @@
 -- The octets of tables and values, and how a writer judges the tape that is given to it: document 01, "types.rs: tables and the tape".
 use Rattle.std.specs.Prelude.{ℕ, zero, suc, ◌+◌, ◌-◌, ◌^◌, ◌%◌, Bool, true, false, ◌&&◌, List, [], ◌∷◌, ◌++◌, length, take, drop, leb, ltb, eqb}
-use Rattle.std.proofs.Math.Option.{Option, some}
+use Rattle.std.specs.Prelude.{Option, Some, None}
 use Rattle.types.specs.Answer.{Refusal, bad_tape, too_deep}
 use Rattle.types.specs.Octets.{octets}
 use Rattle.types.specs.Strings.{octets_of, short_str, long_str, judge_short_str, judge_length}
@@ -51,19 +51,19 @@ in_pool pool start len = leb (start + len) (length pool)
 
 abbrev pub judge_name : Bool → List ℕ → ℕ → Span → Option Refusal
 judge_name true pool i n = test (in_pool pool n.start n.len) (bad_tape i) (judge_short_str (octets_of pool n))
-judge_name false pool i n = test (eqb n.start 0 && eqb n.len 0) (bad_tape i) Option.none
+judge_name false pool i n = test (eqb n.start 0 && eqb n.len 0) (bad_tape i) None
 
 abbrev pub judge_leaf : Leaf → List ℕ → ℕ → Words → Option Refusal
-judge_leaf (number k) pool i x = test (ltb x.first (256 ^ k) && eqb x.second 0) (bad_tape i) Option.none
-judge_leaf boolean pool i x = test (ltb x.first 2 && eqb x.second 0) (bad_tape i) Option.none
-judge_leaf decimal pool i x = test (ltb x.first 256 && ltb x.second (256 ^ 4)) (bad_tape i) Option.none
-judge_leaf kind.long_str pool i x = test (in_pool pool x.first x.second) (bad_tape i) Option.none
+judge_leaf (number k) pool i x = test (ltb x.first (256 ^ k) && eqb x.second 0) (bad_tape i) None
+judge_leaf boolean pool i x = test (ltb x.first 2 && eqb x.second 0) (bad_tape i) None
+judge_leaf decimal pool i x = test (ltb x.first 256 && ltb x.second (256 ^ 4)) (bad_tape i) None
+judge_leaf kind.long_str pool i x = test (in_pool pool x.first x.second) (bad_tape i) None
 judge_leaf kind.short_str pool i x = judge_name true pool i (record { start = x.first; len = x.second })
 
 abbrev pub judge_payload : Kind → List ℕ → ℕ → Words → Option Refusal
 judge_payload (leaf l) pool i x = judge_leaf l pool i x
-judge_payload (container named) pool i x = test (eqb x.first 0 && eqb x.second 0) (bad_tape i) Option.none
-judge_payload unknown pool i x = some (bad_tape i)
+judge_payload (container named) pool i x = test (eqb x.first 0 && eqb x.second 0) (bad_tape i) None
+judge_payload unknown pool i x = Some (bad_tape i)
 
 -- of the records that follow, `left` of them before the parent's end, n are beneath
 abbrev pub count_ok : Kind → ℕ → ℕ → Bool
@@ -73,7 +73,7 @@ count_ok unknown n left = false
 
 -- less than a record is left over at the tape's end
 abbrev pub whole_tape : List ℕ → Option Refusal
-whole_tape tape = test (eqb (length tape % tape_records.size) 0) (bad_tape (record_count tape_records tape)) Option.none
+whole_tape tape = test (eqb (length tape % tape_records.size) 0) (bad_tape (record_count tape_records tape)) None
 
 module _ (letters : Letters) where
   -- the body of a table (named) or of an array
@@ -92,12 +92,12 @@ module _ (letters : Letters) where
       (test (has_level (kind_of letters r.letter) d) too_deep
       (or_else (judge_name named pool i r.name)
       (or_else (judge_payload (kind_of letters r.letter) pool i r.payload)
-      (test (count_ok (kind_of letters r.letter) r.beneath left) (bad_tape i) Option.none))))
+      (test (count_ok (kind_of letters r.letter) r.beneath left) (bad_tape i) None))))
 
   -- records in order, from number i on. Fuel: how many they are
   unfoldable pub judge_with_fuel : ℕ → ℕ → Bool → List ℕ → ℕ → List Record → Option Refusal
-  judge_with_fuel zero d named pool i rs = Option.none
-  judge_with_fuel (suc fuel) d named pool i [] = Option.none
+  judge_with_fuel zero d named pool i rs = None
+  judge_with_fuel (suc fuel) d named pool i [] = None
   judge_with_fuel (suc fuel) d named pool i (r ∷ rs) =
       or_else (judge_record d named pool i r (length rs))
       (or_else (judge_with_fuel fuel (d - 1) (is_table (kind_of letters r.letter)) pool (i + 1) (take r.beneath rs))
@@ -112,7 +112,7 @@ module _ (letters : Letters) where
 
   -- a lone value's: its first record must count all others
   abbrev pub judge_lone : List ℕ → List Record → Option Refusal
-  judge_lone pool [] = some (bad_tape 0)
+  judge_lone pool [] = Some (bad_tape 0)
   judge_lone pool (r ∷ rs) =
       or_else (judge_record 15 false pool 0 r (length rs))
       (test (eqb r.beneath (length rs)) (bad_tape 0)

@@ -1,297 +1,187 @@
 // Floats, in the fewest decimal digits that are read back as the same bits; an integer times a power of two where that would take
 // too many. A float is mantissa * 2^(scale - offset).
-ghost use Rattle.std.specs.Prelude.{◌<◌, ◌≤◌, length};
+ghost use Rattle.print.specs.Printing.{FitsBuffer};
+ghost use Rattle.std.specs.Iterator.{at_most};
+ghost use Rattle.std.specs.Prelude.{◌≡◌, ◌<◌, ◌≤◌, ◌-◌, ◌^◌, false};
 
-use bits::{f32_bits, f64_bits};
-use std::num::wrapping_add_u64;
+use print::Printer;
+use std::fmt;
+use std::num::{f32_to_bits_with_nan, f64_to_bits_with_nan};
 
-// The fields of a float; and of its format the weight of the bit that is not stored, the exponent of infinity, and the offset.
+// Numbers below 1 are in units of 2^-120.
+const ONE: u128 = 1 << 120;
+
+// The digits behind the point, up to the first that are nearer to the value than half the way to the next float: what is left of the
+// value behind the digits so far, and half the way, both times ten for each of these.
 #[derive(Clone, Copy)]
-struct Fields {
-    negative: bool,
-    exponent: u64,
-    fraction: u64,
+struct Digits {
+    rest: u128,
+    half_way: u128,
+    ghost below_one: { rest < 2 ^ 120 },
+    ghost positive: { 0 < half_way },
+}
+
+impl Digits {
+    // Whether the rest is as good as 0 or as 1, so that no digit follows.
+    fn is_near_enough(self) -> bool
+        ensures { (result ≡ false) → (self.half_way ≤ self.rest) }
+    {
+        self.rest < self.half_way || ONE - self.rest < self.half_way
+    }
+
+    // What the last digit is more, so that it is the nearest. It is no 9 then: else there would have been one digit less.
+    fn rounded(self) -> u8
+        ensures { result ≤ 1 }
+    {
+        (ONE / 2 <= self.rest) as u8
+    }
+}
+
+impl Iterator for Digits {
+    type Item = u8;
+
+    // Half the way grows until it is more than the rest.
+    ghost remaining = { λ d. at_most (2 ^ 120 - d.half_way) };
+
+    fn next(&mut self) -> Option<u8> {
+        if self.is_near_enough() {
+            return None;
+        }
+        let tenths = self.rest * 10;
+        *self = Digits {
+            rest: tenths % ONE,
+            half_way: self.half_way * 10,
+        };
+        let digit = (tenths / ONE) as u8;
+        Some(if self.is_near_enough() {
+            digit + self.rounded()
+        } else {
+            digit
+        })
+    }
+}
+
+// What tells a format from another: the weight of the bit that is not stored, the exponent of infinity (all of its bits are set), and the
+// offset.
+#[derive(Clone, Copy)]
+struct Format {
     unstored: u64,
     infinity: u64,
     offset: u64,
+    ghost has_fraction: { 0 < unstored },
 }
 
-// A number below 1, in units of 2^-120: two parts of 60 bits.
+const BINARY32: Format = Format {
+    unstored: 0x80_0000,
+    infinity: 0xFF,
+    offset: 150,
+};
+
+const BINARY64: Format = Format {
+    unstored: 0x10_0000_0000_0000,
+    infinity: 0x7FF,
+    offset: 1075,
+};
+
+// The fields of a float.
 #[derive(Clone, Copy)]
-struct Part {
-    high: u64,
-    low: u64,
-}
-
-const LIMIT: u64 = 0x1000_0000_0000_0000;
-
-// The digits behind the point, and whether the last is to be one more.
-#[derive(Clone, Copy)]
-struct Digits {
-    digits: [u8; 64],
-    count: usize,
-    up: bool,
-}
-
-// n * 2^shift units, where that is below 1.
-fn part_of(n: u64, shift: u64) -> Part
-    requires { shift < 120 }
-{
-    if 60 <= shift {
-        return Part {
-            high: (n << (shift - 60)) % LIMIT,
-            low: 0,
-        };
-    }
-    Part {
-        high: n >> (60 - shift),
-        low: (n << shift) % LIMIT,
-    }
-}
-
-fn times_ten(p: Part) -> Part {
-    let low = p.low % LIMIT * 10;
-    Part {
-        high: p.high % LIMIT * 10 + low / LIMIT,
-        low: low % LIMIT,
-    }
-}
-
-fn is_less(a: Part, b: Part) -> bool {
-    if a.high == b.high {
-        return a.low < b.low;
-    }
-    a.high < b.high
-}
-
-// Whether a and b make more than 1.
-fn is_above_one(a: Part, b: Part) -> bool {
-    if LIMIT <= b.high {
-        return true;
-    }
-    let low = a.low % LIMIT + b.low % LIMIT;
-    let high = a.high % LIMIT + b.high + low / LIMIT;
-    if high == LIMIT {
-        return low % LIMIT != 0;
-    }
-    LIMIT < high
-}
-
-// The digits of a value, up to the first that are nearer to it than half the way to the next float.
-fn digits_of(value: Part, half_way: Part) -> Digits
-    ensures { result.count ≤ 60 }
-{
-    let mut digits = [0u8; 64];
-    let mut count = 0;
-    let mut rest = value;
-    let mut near = half_way;
-    while count < 60 && !is_less(rest, near) && !is_above_one(rest, near) {
-        let more = times_ten(rest);
-        digits[count] = b'0' + (more.high / LIMIT % 10) as u8;
-        rest = Part {
-            high: more.high % LIMIT,
-            low: more.low,
-        };
-        near = times_ten(near);
-        count += 1;
-    }
-    Digits {
-        digits,
-        count,
-        up: LIMIT / 2 <= rest.high,
-    }
-}
-
-// With the last digit one more. It is no 9 then: else there would have been one digit less.
-fn raised(d: Digits) -> Digits
-    requires { d.count ≤ 60 }
-    ensures { result.count ≤ 60 }
-{
-    let count = d.count;
-    let mut digits = d.digits;
-    if d.up && 0 < count {
-        digits[count - 1] = digits[count - 1] % 128 + 1;
-    }
-    Digits {
-        digits,
-        count,
-        up: false,
-    }
-}
-
-fn behind_point(
-    rt: HostRuntime,
-    out: &mut [u8],
-    at: usize,
-    digits: &[u8; 64],
-    count: usize,
-) -> usize
-    requires { count ≤ 60 }
-    ensures { result ≤ length out.old }
-{
-    let point = print::put(rt, out, at, b'.');
-    let all = &digits[..];
-    print::text(rt, out, point, &all[0..count])
-}
-
-fn with_point(rt: HostRuntime, out: &mut [u8], at: usize, integer: u64, d: Digits) -> usize
-    requires { d.count ≤ 60 }
-    ensures { result ≤ length out.old }
-{
-    if d.count == 0 {
-        return print::decimal(rt, out, at, wrapping_add_u64(integer, d.up as u64));
-    }
-    let last = raised(d);
-    let digits = last.digits;
-    let count = last.count;
-    let next = print::decimal(rt, out, at, integer);
-    behind_point(rt, out, next, &digits, count)
-}
-
-fn power(
-    rt: HostRuntime,
-    out: &mut [u8],
-    at: usize,
-    mantissa: u64,
-    sign: &[u8],
+struct Fields {
+    format: Format,
+    negative: bool,
     exponent: u64,
-) -> usize
-    ensures { result ≤ length out.old }
-{
-    let number = print::decimal(rt, out, at, mantissa);
-    let base = print::text(rt, out, number, b" * 2^");
-    let next = print::text(rt, out, base, sign);
-    print::decimal(rt, out, next, exponent)
+    fraction: u64,
 }
 
-// Half the way to the next float, for one in units of 2^-places; below a power of two it is half as far.
-fn half_way_of(places: u64, power_of_two: bool) -> Part
+fn with_point<W: fmt::Write>(
+    f: &mut fmt::Formatter<W>,
+    integer: u64,
+    digits: Digits,
+) -> fmt::Result {
+    if digits.is_near_enough() {
+        return write!(f, "{}", integer.wrapping_add(digits.rounded() as u64));
+    }
+    write!(f, "{integer}.")?;
+    for digit in digits {
+        write!(f, "{digit}")?;
+    }
+    Ok(())
+}
+
+// mantissa * 2^-places. Half the way to the next float is half a unit of the mantissa; below a power of two it is half as far.
+fn digits_of(mantissa: u64, places: u32, power_of_two: bool) -> Digits
     requires { places ≤ 110 }
 {
-    if power_of_two {
-        return part_of(1, 118 - places);
+    let unit = 120 - places;
+    Digits {
+        rest: ((mantissa as u128) << unit) % ONE,
+        half_way: 1 << if power_of_two { unit - 2 } else { unit - 1 },
     }
-    part_of(1, 119 - places)
 }
 
-// mantissa * 2^-places
-fn fraction(
-    rt: HostRuntime,
-    out: &mut [u8],
-    at: usize,
-    mantissa: u64,
-    places: u64,
-    power_of_two: bool,
-) -> usize
-    requires { (0 < places) × (places ≤ 110) }
-    ensures { result ≤ length out.old }
-{
-    let shift = 120 - places;
-    let half_way = half_way_of(places, power_of_two);
-    if places < 64 {
-        let behind = mantissa << (64 - places) >> (64 - places);
-        let digits = digits_of(part_of(behind, shift), half_way);
-        return with_point(rt, out, at, mantissa >> places, digits);
-    }
-    with_point(
-        rt,
-        out,
-        at,
-        0,
-        digits_of(part_of(mantissa, shift), half_way),
-    )
-}
-
-fn finite(rt: HostRuntime, out: &mut [u8], at: usize, mantissa: u64, scale: u64, f: Fields) -> usize
-    ensures { result ≤ length out.old }
-{
-    let offset = f.offset;
-    if offset <= scale {
-        if scale - offset <= 10 {
-            return print::decimal(rt, out, at, mantissa << (scale - offset));
-        }
-        return power(rt, out, at, mantissa, b"", scale - offset);
-    }
-    if 110 < offset - scale {
-        return power(rt, out, at, mantissa, b"-", offset - scale);
-    }
-    fraction(rt, out, at, mantissa, offset - scale, f.fraction == 0)
-}
-
-fn sign(rt: HostRuntime, out: &mut [u8], at: usize, negative: bool) -> usize
-    ensures { result ≤ length out.old }
-{
-    if negative {
-        return print::put(rt, out, at, b'-');
-    }
-    print::inside(out, at)
-}
-
-fn float(rt: HostRuntime, out: &mut [u8], at: usize, f: Fields) -> usize
-    ensures { result ≤ length out.old }
-{
-    let next = sign(rt, out, at, f.negative);
-    if f.exponent == f.infinity {
-        return print::text(rt, out, next, b"inf");
-    }
-    if f.exponent == 0 {
-        if f.fraction == 0 {
-            return print::put(rt, out, next, b'0');
-        }
-        return finite(rt, out, next, f.fraction, 1, f);
-    }
-    finite(
-        rt,
-        out,
-        next,
-        wrapping_add_u64(f.fraction, f.unstored),
-        f.exponent,
-        f,
-    )
-}
-
-pub fn float32(rt: HostRuntime, out: &mut [u8], at: usize, x: f32) -> usize
-    ensures { result ≤ length out.old }
-{
-    let n = f32_bits(x) as u64;
-    float(
-        rt,
-        out,
-        at,
+impl Fields {
+    fn of(format: Format, bits: u64) -> Fields {
+        let above = bits / format.unstored;
         Fields {
-            negative: 0x8000_0000 <= n,
-            exponent: n / 0x80_0000 % 0x100,
-            fraction: n % 0x80_0000,
-            unstored: 0x80_0000,
-            infinity: 0xFF,
-            offset: 150,
-        },
-    )
+            format,
+            negative: format.infinity < above,
+            exponent: above & format.infinity,
+            fraction: bits % format.unstored,
+        }
+    }
+
+    fn finite<W: fmt::Write>(
+        self,
+        f: &mut fmt::Formatter<W>,
+        mantissa: u64,
+        scale: u64,
+    ) -> fmt::Result {
+        let Format { offset, .. } = self.format;
+        if offset <= scale {
+            let up = scale - offset;
+            if up <= 10 {
+                return write!(f, "{}", mantissa << up);
+            }
+            return write!(f, "{mantissa} * 2^{up}");
+        }
+        let places = offset - scale;
+        if 110 < places {
+            return write!(f, "{mantissa} * 2^-{places}");
+        }
+        let places = places as u32;
+        let integer = mantissa.checked_shr(places).unwrap_or(0);
+        with_point(f, integer, digits_of(mantissa, places, self.fraction == 0))
+    }
 }
 
-pub fn float64(rt: HostRuntime, out: &mut [u8], at: usize, x: f64) -> usize
-    ensures { result ≤ length out.old }
-{
-    let n = f64_bits(x);
-    float(
-        rt,
-        out,
-        at,
-        Fields {
-            negative: 0x8000_0000_0000_0000 <= n,
-            exponent: n / 0x10_0000_0000_0000 % 0x800,
-            fraction: n % 0x10_0000_0000_0000,
-            unstored: 0x10_0000_0000_0000,
-            infinity: 0x7FF,
-            offset: 1075,
-        },
-    )
+impl fmt::Display for Fields {
+    fn fmt<W: fmt::Write>(&self, f: &mut fmt::Formatter<W>) -> fmt::Result {
+        if self.negative {
+            f.write_str("-")?;
+        }
+        if self.exponent == self.format.infinity {
+            return f.write_str("inf");
+        }
+        if self.exponent != 0 {
+            let mantissa = self.fraction.wrapping_add(self.format.unstored);
+            return self.finite(f, mantissa, self.exponent);
+        }
+        if self.fraction == 0 {
+            return f.write_str("0");
+        }
+        self.finite(f, self.fraction, 1)
+    }
 }
 
-// A NaN is its bits.
-pub fn nan(rt: HostRuntime, out: &mut [u8], at: usize, bits: u64) -> usize
-    ensures { result ≤ length out.old }
+pub fn float32(printer: &mut Printer, x: f32)
+    ensures { FitsBuffer printer.new }
 {
-    let next = print::text(rt, out, at, b"NaN 0x");
-    print::hex(rt, out, next, bits)
+    let bits = f32_to_bits_with_nan(x) as u64;
+    write!(printer, "{}", Fields::of(BINARY32, bits));
+}
+
+pub fn float64(printer: &mut Printer, x: f64)
+    ensures { FitsBuffer printer.new }
+{
+    let bits = f64_to_bits_with_nan(x);
+    write!(printer, "{}", Fields::of(BINARY64, bits));
 }

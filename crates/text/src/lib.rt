@@ -1,8 +1,7 @@
-// Values as text for people. Every function takes the place in the output buffer for its first octet and answers the place behind
-// its last, as those of `print` do.
+// Values as text for people.
 #![tactic(auto)]
 
 pub mod float;
-pub mod number;
+pub mod moment;
 pub mod string;
 pub mod table;

@@ -1,176 +1,125 @@
 // Field tables, from their records on a tape: {"name": letter value, ..}; arrays in square brackets, without names.
-ghost use Rattle.std.specs.Prelude.{◌+◌, ◌^◌, ◌<◌, ◌≤◌, length};
+ghost use Rattle.print.specs.Printing.{FitsBuffer};
+ghost use Rattle.std.specs.Iterator.{at_most};
+ghost use Rattle.std.specs.Prelude.{length};
 
-use crate::number::{HALF8, HALF16, HALF32, HALF64, signed};
-use crate::{float, number, string};
-use bits::{unsigned8, unsigned16, unsigned32, unsigned64};
-use tables::tape::record_at;
-use tables::{ReadRecord, TapeRecord};
-use types::Span;
-use values::{FieldValue, LeafValue};
+use crate::{float, moment, string};
+use print::Printer;
+use tables::tape::{RECORD_WORDS, record_at};
+use tables::{Kind, LEVELS, TapeRecord};
+use values::FieldValue;
 
-// No table or array stands at depth 16.
-const LEVELS: usize = 16;
-
-const TABLE: u64 = 0x46;
-
-fn leaf(rt: HostRuntime, out: &mut [u8], at: usize, s: &[u8], v: FieldValue) -> usize
-    ensures { result ≤ length out.old }
-{
+fn leaf(printer: &mut Printer, s: &[u8], v: FieldValue) {
     match v {
-        FieldValue::Bool(b) => number::flag(rt, out, at, b),
-        FieldValue::I8(z) => signed(rt, out, at, unsigned8(z) as u64, HALF8),
-        FieldValue::U8(n) => print::decimal(rt, out, at, n as u64),
-        FieldValue::I16(z) => signed(rt, out, at, unsigned16(z) as u64, HALF16),
-        FieldValue::U16(n) => print::decimal(rt, out, at, n as u64),
-        FieldValue::I32(z) => signed(rt, out, at, unsigned32(z) as u64, HALF32),
-        FieldValue::U32(n) => print::decimal(rt, out, at, n as u64),
-        FieldValue::I64(z) => signed(rt, out, at, unsigned64(z), HALF64),
-        FieldValue::F32(x) => float::float32(rt, out, at, x),
-        FieldValue::F32Nan(n) => float::nan(rt, out, at, n as u64),
-        FieldValue::F64(x) => float::float64(rt, out, at, x),
-        FieldValue::F64Nan(n) => float::nan(rt, out, at, n),
-        FieldValue::Decimal { scale, value } => number::scaled(rt, out, at, scale, value),
-        FieldValue::LongStr(v) => string::span(rt, out, at, s, v, true),
-        FieldValue::Bytes(v) => string::span(rt, out, at, s, v, false),
-        FieldValue::Timestamp(n) => number::timestamp(rt, out, at, n),
-        FieldValue::Void => print::text(rt, out, at, b"void"),
+        FieldValue::Bool(b) => write!(printer, "{b}"),
+        FieldValue::I8(n) => write!(printer, "{n}"),
+        FieldValue::U8(n) => write!(printer, "{n}"),
+        FieldValue::I16(n) => write!(printer, "{n}"),
+        FieldValue::U16(n) => write!(printer, "{n}"),
+        FieldValue::I32(n) => write!(printer, "{n}"),
+        FieldValue::U32(n) => write!(printer, "{n}"),
+        FieldValue::I64(n) => write!(printer, "{n}"),
+        FieldValue::F32(x) => float::float32(printer, x),
+        FieldValue::F32Nan(bits) => write!(printer, "NaN 0x{bits:x}"),
+        FieldValue::F64(x) => float::float64(printer, x),
+        FieldValue::F64Nan(bits) => write!(printer, "NaN 0x{bits:x}"),
+        // Exactly: its number, and the power of ten that its scale is.
+        FieldValue::Decimal { scale, value } => write!(printer, "{value}e-{scale}"),
+        FieldValue::LongStr(v) => string::quoted_span(printer, s, v),
+        FieldValue::Bytes(v) => string::octets_span(printer, s, v),
+        FieldValue::Timestamp(n) => moment::timestamp(printer, n),
+        FieldValue::Void => printer.text(b"void"),
     }
 }
 
-fn name(rt: HostRuntime, out: &mut [u8], at: usize, s: &[u8], v: Span) -> usize
-    ensures { result ≤ length out.old }
-{
-    let end = string::span(rt, out, at, s, v, true);
-    print::text(rt, out, end, b": ")
-}
-
-// The name and the letter.
-fn label(rt: HostRuntime, out: &mut [u8], at: usize, s: &[u8], r: TapeRecord, named: bool) -> usize
-    ensures { result ≤ length out.old }
-{
-    let letter = [(r.letter % 256) as u8, b' '];
+// The name, if an entry has one, and the letter.
+fn label(printer: &mut Printer, s: &[u8], r: TapeRecord, named: bool) {
     if named {
-        let next = name(rt, out, at, s, r.name);
-        return print::text(rt, out, next, &letter);
+        string::quoted_span(printer, s, r.name);
+        printer.text(b": ");
     }
-    print::text(rt, out, at, &letter)
+    printer.text(&[(r.letter % 256) as u8, b' ']);
 }
 
-// A comma behind another entry.
-fn comma(rt: HostRuntime, out: &mut [u8], at: usize, first: bool) -> usize
-    ensures { result ≤ length out.old }
-{
-    if first {
-        return print::inside(out, at);
-    }
-    print::text(rt, out, at, b", ")
+// The records of one table or array, those beneath each left out: the words of those that are still to come.
+#[derive(Clone, Copy)]
+struct Siblings<'a> {
+    words: &'a [u64],
 }
 
-// The records from `from` on up to `end`.
-#[cycle(container_entries_value_of)]
-fn entries(
-    rt: HostRuntime,
-    out: &mut [u8],
-    at: usize,
-    s: &[u8],
-    tape: &[u64],
-    from: usize,
-    end: usize,
-    levels: usize,
-    named: bool,
-) -> usize
-    ensures { result ≤ length out.old }
-{
-    let mut next = print::inside(out, at);
-    let mut k = from;
-    while k < end {
-        let ReadRecord::Value(r) = record_at(tape, k) else {
-            return print::put(rt, out, next, b'?');
-        };
-        let beneath = r.beneath;
-        if end - k <= beneath {
-            return print::put(rt, out, next, b'?');
+// A record, and the records right beneath it.
+#[derive(Clone, Copy)]
+struct Entry<'a> {
+    record: TapeRecord,
+    beneath: Siblings<'a>,
+}
+
+impl<'a> Iterator for Siblings<'a> {
+    // None in place of a record that does not stand there whole: it is the last one.
+    type Item = Option<Entry<'a>>;
+
+    ghost remaining = { λ s. at_most (length s.words.now) };
+
+    fn next(&mut self) -> Option<Option<Entry<'a>>> {
+        let words = self.words;
+        self.words = &[];
+        if words.is_empty() {
+            return None;
         }
-        let entry = comma(rt, out, next, k == from);
-        let value = label(rt, out, entry, s, r, named);
-        next = value_of(rt, out, value, s, tape, k, r, levels);
-        k += 1 + beneath;
+        let (Ok(record), Some(others)) = (record_at(words, 0), words.get(RECORD_WORDS..)) else {
+            return Some(None);
+        };
+        let beneath = record.beneath.saturating_mul(RECORD_WORDS);
+        let Some((words, behind)) = others.split_at_checked(beneath) else {
+            return Some(None);
+        };
+        self.words = behind;
+        let beneath = Siblings { words };
+        Some(Some(Entry { record, beneath }))
     }
-    next
+}
+
+#[cycle(container_entries_value_of)]
+fn entries(printer: &mut Printer, s: &[u8], records: Siblings, levels: usize, named: bool) {
+    for (i, entry) in records.enumerate() {
+        let Some(entry) = entry else {
+            return printer.put(b'?');
+        };
+        if i != 0 {
+            printer.text(b", ");
+        }
+        label(printer, s, entry.record, named);
+        value_of(printer, s, entry, levels);
+    }
 }
 
 // A leaf, or what lies beneath a table or an array.
 #[cycle(container_entries_value_of)]
-fn value_of(
-    rt: HostRuntime,
-    out: &mut [u8],
-    at: usize,
-    s: &[u8],
-    tape: &[u64],
-    k: usize,
-    r: TapeRecord,
-    levels: usize,
-) -> usize
-    requires { k + 1 + r.beneath < 2 ^ 64 }
-    ensures { result ≤ length out.old }
-{
-    match r.value() {
-        LeafValue::Value(v) => leaf(rt, out, at, s, v),
-        LeafValue::None => {
-            if levels == 0 {
-                return print::put(rt, out, at, b'?');
-            }
-            let from = k + 1;
-            container(
-                rt,
-                out,
-                at,
-                s,
-                tape,
-                from,
-                from + r.beneath,
-                levels - 1,
-                r.letter == TABLE,
-            )
+fn value_of(printer: &mut Printer, s: &[u8], entry: Entry, levels: usize) {
+    match entry.record.value() {
+        Some(v) => leaf(printer, s, v),
+        None if levels == 0 => printer.put(b'?'),
+        None => {
+            let is_table = entry.record.kind() == Some(Kind::Container(true));
+            container(printer, s, entry.beneath, levels - 1, is_table)
         }
     }
 }
 
 #[cycle(container_entries_value_of)]
-fn container(
-    rt: HostRuntime,
-    out: &mut [u8],
-    at: usize,
-    s: &[u8],
-    tape: &[u64],
-    from: usize,
-    end: usize,
-    levels: usize,
-    table: bool,
-) -> usize
-    ensures { result ≤ length out.old }
-{
-    if table {
-        let open = print::put(rt, out, at, b'{');
-        let close = entries(rt, out, open, s, tape, from, end, levels, true);
-        return print::put(rt, out, close, b'}');
-    }
-    let open = print::put(rt, out, at, b'[');
-    let close = entries(rt, out, open, s, tape, from, end, levels, false);
-    print::put(rt, out, close, b']')
+fn container(printer: &mut Printer, s: &[u8], records: Siblings, levels: usize, is_table: bool) {
+    printer.put(if is_table { b'{' } else { b'[' });
+    entries(printer, s, records, levels, is_table);
+    printer.put(if is_table { b'}' } else { b']' });
 }
 
-// A table whose records are the first `count` of a tape.
-pub fn table(
-    rt: HostRuntime,
-    out: &mut [u8],
-    at: usize,
-    s: &[u8],
-    tape: &[u64],
-    count: usize,
-) -> usize
-    ensures { result ≤ length out.old }
+// A table whose records are the first `count` of a tape; beneath it stand as many levels as a reader lets through, and one more. More
+// records than the tape has, as no reader answers them, show as `?`. The count stands beside the tape, since it is what readers answer.
+pub fn table(printer: &mut Printer, s: &[u8], tape: &[u64], count: usize)
+    ensures { FitsBuffer printer.new }
 {
-    container(rt, out, at, s, tape, 0, count, LEVELS, true)
+    match tape.get(..count.saturating_mul(RECORD_WORDS)) {
+        None => printer.put(b'?'),
+        Some(words) => container(printer, s, Siblings { words }, LEVELS + 1, true),
+    }
 }

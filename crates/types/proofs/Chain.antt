@@ -1,7 +1,7 @@
 -- What is known of a chain of readers that gives an answer.
 use mathlib.Core.Path.{◌≡◌, refl}
 use mathlib.Core.Bool.{Bool, true, false}
-use mathlib.Core.Option.{Option, none, some}
+use Rattle.std.specs.Prelude.{Option, None, Some}
 use Prim.Native.Nat.{ℕ}
 use native.Mathlib.Omega.{arith}
 use Rattle.types.specs.Answer.{Answer, given, refused, Refusal, and_then, need}
@@ -29,14 +29,10 @@ pub given-value : {A : Type 0} (a b : A) (m n : ℕ) → ◌≡◌ {A = Answer A
 given-value a b m n e = cc
 
 -- judgements that pass
-pub test-none : (b : Bool) (r : Refusal) (o : Option Refusal) → test b r o ≡ none → (b ≡ true) × (o ≡ none)
+pub test-none : (b : Bool) (r : Refusal) (o : Option Refusal) → test b r o ≡ None → (b ≡ true) × (o ≡ None)
 test-none true r o e = (refl, e)
 test-none false r o e = let z : ◌≡◌ {A = ℕ} 0 1 = cc in absurd (omega arith)
 
-pub or_else-none : (a o : Option Refusal) → or_else a o ≡ none → (a ≡ none) × (o ≡ none)
-or_else-none none o e = (refl, e)
-or_else-none (some r) o e = let z : ◌≡◌ {A = ℕ} 0 1 = cc in absurd (omega arith)
-
--- an answer by another name of its number
-pub by_number : {A : Answer ℕ} {m n next : ℕ} → m ≡ n → given n next ≡ A → given m next ≡ A
-by_number e q = cc
+pub or_else-none : (a o : Option Refusal) → or_else a o ≡ None → (a ≡ None) × (o ≡ None)
+or_else-none None o e = (refl, e)
+or_else-none (Some r) o e = let z : ◌≡◌ {A = ℕ} 0 1 = cc in absurd (omega arith)

@@ -7,7 +7,7 @@ use borrow.Author.Tests.{lt-ltb, le-ltb}
 use lib.Dec.{T}
 use lib.Ieee.{Format, Float, hid, ones, top, fits, is_nan, nan_bits, of_bits, to_bits}
 use lib.Ieee.Bits.{nan_bits_above, nan_bits_is, to_bits-of_bits, of_bits-to_bits, is_false}
-use Rattle.types.specs.Answer.{Refusal, Answer, given, refused, and_then}
+use Rattle.types.specs.Answer.{Answer, given, and_then}
 use Rattle.types.specs.Octets.{uint_at}
 use Rattle.types.specs.Floats as value
 use Rattle.types.specs.Floats.{FloatValue, float, float_of, bits_of, float_at}
@@ -51,7 +51,3 @@ module _ (f : Format) (k : ℕ) (s : List ℕ) (at : ℕ) where
   pub float_at-given : {n next : ℕ} {v : FloatValue} → float_of f n ≡ v → given n next ≡ uint_at k s at → given v next ≡ float_at f k s at
   unfolding float_at
   float_at-given {n} {next} {v} q e = ap (λ (x : FloatValue). given x next) (sym q) ∙ ap (λ (a : Answer ℕ). and_then a (λ m p. given (float_of f m) p)) e
-
-  pub float_at-refused : {r : Refusal} → refused r ≡ uint_at k s at → refused r ≡ float_at f k s at
-  unfolding float_at
-  float_at-refused e = ap (λ (a : Answer ℕ). and_then a (λ m p. given (float_of f m) p)) e

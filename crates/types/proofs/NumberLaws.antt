@@ -3,13 +3,15 @@ use mathlib.Core.Path.{◌≡◌, refl, ap, ◌∙◌, subst⁻¹}
 use mathlib.Core.List.{List, [], ◌∷◌}
 use mathlib.Core.Bool.{Bool, true, false, cond}
 use Prim.Native.Nat.{ℕ, zero, suc, ◌+◌, ◌*◌, ◌/◌, ◌%◌, ◌^◌, ◌≤◌, ◌<◌}
-use native.Mathlib.Nat.{pow-suc, pow-le-pow_right}
-use native.Mathlib.Numerals.{add-one}
+use native.Mathlib.Nat.{pow-suc}
 use native.Mathlib.Omega.{arith}
-use borrow.Author.Tests.{leb-true, leb-false, le-leb, lt-leb}
+use borrow.Author.Tests.{leb-true, leb-false, le-leb}
 use lib.Arith.{digits_lt}
 use lib.Dec.{lit<, leb}
-use lib.ListN.{length, get_or, length-append}
+use lib.ListN.{length, take, drop, get_or, length-append}
+use lib.Seq.{get_or-take, get_or-drop}
+use mir.Syntax.{w16, w32, w64}
+use Rattle.std.specs.Int.{from_be_bytes}
 use Rattle.types.specs.Answer.{Refusal, given, refused, truncated}
 use Rattle.types.specs.Octets.{number_at, uint_at, octets}
 
@@ -21,23 +23,7 @@ pub length-octets : (k n : ℕ) → length (octets k n) ≡ k
 length-octets zero n = refl
 length-octets (suc k) n = length-append (octets k (n / 256)) (n % 256 ∷ []) ∙ (rw (length-octets k (n / 256)) (omega arith))
 
--- one octet more
-pub number_at-more : (s : List ℕ) (at i n : ℕ) → n ≡ number_at i s at → n * 256 + get_or s (at + i) 0 ≡ number_at (i + 1) s at
-unfolding number_at
-number_at-more s at i n e = rw (add-one i, e)
-
--- a number that fits i octets and one octet more fit i + 1
-pub more_lt : (i n b : ℕ) → n < 256 ^ i → b < 256 → n * 256 + b < 256 ^ (i + 1)
-more_lt i n b h k = rw (add-one i, pow-suc 256 i) (digits_lt h k)
-
--- and 64 bits where i is below 8
-pub more-fits : (i n b : ℕ) → i < 8 → n < 256 ^ i → b < 256 → n * 256 + b < 2 ^ 64
-more-fits i n b l h k =
-    let w : i + 1 ≤ 8 = omega arith in
-    let p : 256 ^ (i + 1) ≤ 256 ^ 8 = pow-le-pow_right (lit< tt) w in
-    let q : n * 256 + b < 256 ^ (i + 1) = more_lt i n b h k in
-    omega arith
-
+-- a number of k octets is below 256 ^ k
 pub number_at-lt : (s : List ℕ) → Octets s → (k at : ℕ) → number_at k s at < 256 ^ k
 unfolding number_at
 number_at-lt s o zero at = lit< tt
@@ -55,10 +41,6 @@ pub uint_at-given : (k : ℕ) (s : List ℕ) (at : ℕ) → at + k ≤ length s 
 unfolding uint_at
 uint_at-given k s at h = rw (le-leb _ _ h)
 
-pub uint_at-truncated : (k : ℕ) (s : List ℕ) (at : ℕ) → length s < at + k → uint_at k s at ≡ refused truncated
-unfolding uint_at
-uint_at-truncated k s at h = rw (lt-leb _ _ h)
-
 -- what an answer that gives a number says: where the octets are, and which number it is
 pub record Read (k : ℕ) (s : List ℕ) (at n next : ℕ) : Type 0 where
   pub within : at + k ≤ length s
@@ -73,7 +55,7 @@ uint_at-read k s at {n} {next} e = go (leb (at + k) (length s)) refl e
     go true t q = record { within = leb-true _ _ t; number = cc; past = cc }
     go false t q = let z : ◌≡◌ {A = ℕ} 0 1 = cc in absurd (omega arith)
 
--- a number of k octets is below 256 ^ k
+-- and so is what is read
 pub uint_at-lt : (k : ℕ) (s : List ℕ) (at : ℕ) {n next : ℕ} → Octets s → given n next ≡ uint_at k s at → n < 256 ^ k
 uint_at-lt k s at {n} {next} o e =
     subst⁻¹ (λ (m : ℕ). m < 256 ^ k) (uint_at-read k s at e).number (number_at-lt s o k at)
@@ -86,3 +68,30 @@ uint_at-short k s at {r} e = go (leb (at + k) (length s)) refl e
     go : (b : Bool) → leb (at + k) (length s) ≡ b → refused r ≡ cond b (given (number_at k s at) (at + k)) (refused truncated) → length s < at + k
     go true t q = let z : ◌≡◌ {A = ℕ} 0 1 = cc in absurd (omega arith)
     go false t q = leb-false _ _ t
+
+-- octets taken at a place, and their number by the library's word
+taken : (s : List ℕ) (at k i : ℕ) → i < k → get_or (take k (drop at s)) i 0 ≡ get_or s (at + i) 0
+taken s at k i h = get_or-take k (drop at s) i 0 h ∙ get_or-drop at s i 0
+
+pub number_2 : (s : List ℕ) (at : ℕ) → from_be_bytes w16 (take 2 (drop at s)) ≡ number_at 2 s at
+unfolding number_at
+number_2 s at = omega (arith, taken s at 2 0 (omega arith), taken s at 2 1 (omega arith))
+
+pub number_4 : (s : List ℕ) (at : ℕ) → from_be_bytes w32 (take 4 (drop at s)) ≡ number_at 4 s at
+unfolding number_at
+number_4 s at = omega (arith, taken s at 4 0 (omega arith), taken s at 4 1 (omega arith), taken s at 4 2 (omega arith), taken s at 4 3 (omega arith))
+
+pub number_8 : (s : List ℕ) (at : ℕ) → from_be_bytes w64 (take 8 (drop at s)) ≡ number_at 8 s at
+unfolding number_at
+number_8 s at =
+    omega (
+      arith,
+      taken s at 8 0 (omega arith),
+      taken s at 8 1 (omega arith),
+      taken s at 8 2 (omega arith),
+      taken s at 8 3 (omega arith),
+      taken s at 8 4 (omega arith),
+      taken s at 8 5 (omega arith),
+      taken s at 8 6 (omega arith),
+      taken s at 8 7 (omega arith),
+    )

@@ -2,7 +2,7 @@
 use mathlib.Core.Path.{◌≡◌, refl, sym, ap, ◌∙◌}
 use mathlib.Core.Bool.{true}
 use mathlib.Core.List.{List, [], ◌∷◌, ◌++◌}
-use mathlib.Core.Option.{none}
+use Rattle.std.specs.Prelude.{None}
 use Prim.Native.Nat.{ℕ, zero, suc, ◌+◌, ◌*◌, ◌^◌, ◌/◌, ◌%◌, ◌≤◌, ◌<◌}
 use native.Mathlib.Omega.{arith}
 use native.Mathlib.Nat.{pow-suc}
@@ -77,10 +77,10 @@ pub record FitShort (xs : List ℕ) : Type 0 where
   pub short : length xs < 256
   pub text : utf8 xs ≡ true
 
-pub short-fit : (xs : List ℕ) → judge_short_str xs ≡ none → FitShort xs
+pub short-fit : (xs : List ℕ) → judge_short_str xs ≡ None → FitShort xs
 short-fit xs e =
-    let a = test-none (leb (length xs) 255) short_str_too_long (test (utf8 xs) not_utf8 none) e in
-    record { short = omega (arith, yes_leb (length xs) 255 a.0); text = (test-none (utf8 xs) not_utf8 none a.1).0 }
+    let a = test-none (leb (length xs) 255) short_str_too_long (test (utf8 xs) not_utf8 None) e in
+    record { short = omega (arith, yes_leb (length xs) 255 a.0); text = (test-none (utf8 xs) not_utf8 None a.1).0 }
 
 abbrev pub place_short : ℕ → List ℕ → Span
 place_short p xs = record { start = p + 1; len = length xs }

@@ -1,6 +1,6 @@
 -- Short and long strings: 0-9-1, 4.2.5.3; a short string is UTF-8 (document 01, "types.rs: octets and strings").
 use Rattle.std.specs.Prelude.{ℕ, ◌+◌, List, ◌++◌, length, take, drop, leb}
-use Rattle.std.proofs.Math.Option.{Option, none}
+use Rattle.std.specs.Prelude.{cond, Option, None, Some}
 use Rattle.utf8.specs.Utf8.{utf8}
 use Rattle.types.specs.Answer.{Refusal, Answer, given, truncated, short_str_too_long, not_utf8, too_long, and_then, need}
 use Rattle.types.specs.Octets.{uint_at, octets}
@@ -10,6 +10,10 @@ use Rattle.types.specs.declared.Span.{Span}
 -- the octets of a span
 abbrev pub octets_of : List ℕ → Span → List ℕ
 octets_of s v = take v.len (drop v.start s)
+
+-- the same where they all are in s
+unfoldable pub octets_in : List ℕ → Span → Option (List ℕ)
+octets_in s v = cond (leb (v.start + v.len) (length s)) (Some (octets_of s v)) None
 
 -- Readers
 
@@ -39,7 +43,7 @@ long_str xs = octets 4 (length xs) ++ xs
 
 -- and what a writer refuses: of a short string its length, then its octets; of what has a length field of four octets its length
 abbrev pub judge_short_str : List ℕ → Option Refusal
-judge_short_str xs = test (leb (length xs) 255) short_str_too_long (test (utf8 xs) not_utf8 none)
+judge_short_str xs = test (leb (length xs) 255) short_str_too_long (test (utf8 xs) not_utf8 None)
 
 abbrev pub judge_length : ℕ → Option Refusal
-judge_length n = test (leb n 4294967295) too_long none
+judge_length n = test (leb n 4294967295) too_long None

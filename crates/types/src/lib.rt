@@ -1,13 +1,15 @@
 // The wire types of AMQP 0-9-1: the refusals, a position in lent octets, and what readers answer. All numbers are big-endian.
 #![tactic(auto)]
 
+ghost use Rattle.std.specs.Prelude.{◌≡◌, ◌+◌, length, leb};
+
 mod floats;
 mod numbers;
 mod refusals;
 mod strings;
 
 // The eleven refusals, in the order of document 01's two tables.
-#[derive(Clone, Copy)]
+#[derive(Clone, Copy, Debug, PartialEq, Eq)]
 pub enum WireError {
     Truncated,
     ShortStrTooLong,
@@ -22,8 +24,9 @@ pub enum WireError {
     NoSpace,
 }
 
-// A refusal by its number, and as many values as it has; the others are 0.
-#[derive(Clone, Copy)]
+// A refusal by its number, and as many values as it has; the others are 0. C is answered by these words as they are: Options would be
+// made 0 again in both places that answer it.
+#[derive(Clone, Copy, Debug, PartialEq, Eq)]
 pub struct Numbered {
     pub number: u8,
     pub count: u8,
@@ -32,90 +35,40 @@ pub struct Numbered {
 }
 
 // A position in lent octets, by value: it goes in, and the next one comes out with the answer.
-#[derive(Clone, Copy)]
+#[derive(Clone, Copy, Debug, PartialEq, Eq)]
 pub struct Cursor {
     pub at: usize,
 }
 
+// A number by its width.
+#[derive(Clone, Copy, Debug, PartialEq, Eq)]
+pub enum Number {
+    U8,
+    U16,
+    U32,
+    U64,
+}
+
 // Where some octets stand.
-#[derive(Clone, Copy)]
+#[derive(Clone, Copy, Debug, PartialEq, Eq)]
 pub struct Span {
     pub start: usize,
     pub len: usize,
 }
 
-#[derive(Clone, Copy)]
-pub enum ReadU8 {
-    Value(u8, Cursor),
-    Refused(WireError),
+// Whether a slice has n octets at a place. No sum wraps: the place may be any number.
+pub fn has_octets(s: &[u8], at: usize, n: usize) -> bool
+    ensures { result ≡ leb (at + n) (length s.now) }
+{
+    at <= s.len() && n <= s.len() - at
 }
 
-#[derive(Clone, Copy)]
-pub enum ReadU16 {
-    Value(u16, Cursor),
-    Refused(WireError),
-}
-
-#[derive(Clone, Copy)]
-pub enum ReadU32 {
-    Value(u32, Cursor),
-    Refused(WireError),
-}
-
-#[derive(Clone, Copy)]
-pub enum ReadU64 {
-    Value(u64, Cursor),
-    Refused(WireError),
-}
-
-#[derive(Clone, Copy)]
-pub enum ReadI8 {
-    Value(i8, Cursor),
-    Refused(WireError),
-}
-
-#[derive(Clone, Copy)]
-pub enum ReadI16 {
-    Value(i16, Cursor),
-    Refused(WireError),
-}
-
-#[derive(Clone, Copy)]
-pub enum ReadI32 {
-    Value(i32, Cursor),
-    Refused(WireError),
-}
-
-#[derive(Clone, Copy)]
-pub enum ReadI64 {
-    Value(i64, Cursor),
-    Refused(WireError),
-}
+// What a reader answers: a value and the position past it, or a refusal.
+pub type Read<T> = Result<(T, Cursor), WireError>;
 
 // A float, or the bits of a NaN: the language knows one NaN, so no float keeps a NaN's bits.
 #[derive(Clone, Copy)]
-pub enum ReadF32 {
-    Value(f32, Cursor),
-    Nan(u32, Cursor),
-    Refused(WireError),
-}
-
-#[derive(Clone, Copy)]
-pub enum ReadF64 {
-    Value(f64, Cursor),
-    Nan(u64, Cursor),
-    Refused(WireError),
-}
-
-#[derive(Clone, Copy)]
-pub enum ReadSpan {
-    Value(Span, Cursor),
-    Refused(WireError),
-}
-
-// What is passed over has no value.
-#[derive(Clone, Copy)]
-pub enum Skipped {
-    Next(Cursor),
-    Refused(WireError),
+pub enum FloatOrNan<F, B> {
+    Float(F),
+    Nan(B),
 }

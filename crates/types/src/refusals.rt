@@ -1,8 +1,10 @@
 // The refusals by document 01's number, with their values: for callers that cannot take the enum, and for logs.
 ghost use Rattle.std.specs.Prelude.{◌≡◌};
+ghost use Rattle.types.specs.declared.WireError.TheVariants.{NotUtf8};
 ghost use Rattle.types.specs.AnswerOf.{refusal, numbered};
 
 use crate::{Numbered, WireError};
+use utf8::Utf8Error;
 
 fn with_values(number: u8, count: u8, first: u64, second: u64) -> Numbered
     ensures { result ≡ record { number = number; count = count; first = first; second = second } }
@@ -16,6 +18,7 @@ fn with_values(number: u8, count: u8, first: u64, second: u64) -> Numbered
 }
 
 impl WireError {
+    // Numbers and words, since C takes no enum.
     pub fn numbered(self) -> Numbered
         ensures { result ≡ numbered (refusal self) }
     {
@@ -34,5 +37,14 @@ impl WireError {
             WireError::TapeFull => with_values(10, 0, 0, 0),
             WireError::NoSpace => with_values(11, 0, 0, 0),
         }
+    }
+}
+
+// Octets that are no UTF-8 are one refusal, wherever the fault is.
+impl From<Utf8Error> for WireError {
+    ghost from_gives = { λ _ e. e ≡ NotUtf8 };
+
+    fn from(_e: Utf8Error) -> WireError {
+        WireError::NotUtf8
     }
 }

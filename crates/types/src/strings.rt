@@ -1,61 +1,75 @@
 // Short and long strings: 0-9-1, 4.2.5.3. A string is answered as the span of its octets.
-ghost use Rattle.std.specs.Prelude.{◌≡◌};
-ghost use Rattle.types.specs.Strings.{span_at, long_str_at, short_str_at, skip_field_table_at};
-ghost use Rattle.types.specs.AnswerOf.{answer_of_span, answer_of_skipped};
+ghost use Rattle.std.specs.Prelude.{◌≡◌, [], ◌∷◌, get_or, option_copied};
+ghost use Rattle.types.specs.Strings.{octets_in, span_at, long_str_at, short_str_at, skip_field_table_at};
+ghost use Rattle.types.specs.AnswerOf.{answer_of};
 
-use crate::{Cursor, ReadSpan, ReadU8, ReadU32, Skipped, Span, WireError};
-use utf8::Scan;
+use crate::{Cursor, Read, Span, WireError, has_octets};
+
+impl Span {
+    // The span that two words are: its start and its length.
+    pub fn from_words(words: [u64; 2]) -> Span
+        ensures { result ≡ record { start = get_or words 0 0; len = get_or words 1 0 } }
+    {
+        let [start, len] = words;
+        Span {
+            start: start as usize,
+            len: len as usize,
+        }
+    }
+
+    // Its start and its length.
+    pub fn to_words(self) -> [u64; 2]
+        ensures { result ≡ self.start ∷ self.len ∷ [] }
+    {
+        [self.start as u64, self.len as u64]
+    }
+
+    // Its octets, or None where it reaches outside. No sum wraps: a span may have any numbers.
+    #[tactic(auto, unfolding(crate::specs::Strings::octets_in))]
+    pub fn octets_in(self, s: &[u8]) -> Option<&[u8]>
+        ensures { option_copied result ≡ octets_in s.now self }
+    {
+        s.get(self.start..)?.get(..self.len)
+    }
+}
 
 impl Cursor {
     // n octets at the position.
-    pub fn span(self, s: &[u8], n: usize) -> ReadSpan
-        ensures { answer_of_span result ≡ span_at n s.now self.at }
+    #[tactic(auto, unfolding(crate::specs::Strings::span_at))]
+    pub fn span(self, s: &[u8], n: usize) -> Read<Span>
+        ensures { answer_of result ≡ span_at n s.now self.at }
     {
-        let at = self.at;
-        if s.len() < at {
-            return ReadSpan::Refused(WireError::Truncated);
+        if !has_octets(s, self.at, n) {
+            return Err(WireError::Truncated);
         }
-        if s.len() - at < n {
-            return ReadSpan::Refused(WireError::Truncated);
-        }
-        ReadSpan::Value(Span { start: at, len: n }, Cursor { at: at + n })
+        let start = self.at;
+        Ok((Span { start, len: n }, Cursor { at: start + n }))
     }
 
-    pub fn long_str(self, s: &[u8]) -> ReadSpan
-        ensures { answer_of_span result ≡ long_str_at s.now self.at }
+    #[tactic(auto, unfolding(crate::specs::Strings::long_str_at))]
+    pub fn long_str(self, s: &[u8]) -> Read<Span>
+        ensures { answer_of result ≡ long_str_at s.now self.at }
     {
-        match self.u32(s) {
-            ReadU32::Value(n, next) => next.span(s, n as usize),
-            ReadU32::Refused(e) => ReadSpan::Refused(e),
-        }
+        let (n, next) = self.u32(s)?;
+        next.span(s, n as usize)
     }
 
-    pub fn short_str(self, s: &[u8]) -> ReadSpan
-        ensures { answer_of_span result ≡ short_str_at s.now self.at }
+    #[tactic(auto, unfolding(crate::specs::Strings::short_str_at))]
+    pub fn short_str(self, s: &[u8]) -> Read<Span>
+        ensures { answer_of result ≡ short_str_at s.now self.at }
     {
-        match self.u8(s) {
-            ReadU8::Value(n, next) => match next.span(s, n as usize) {
-                ReadSpan::Value(v, after) => {
-                    let start = v.start;
-                    let end = after.at;
-                    match utf8::scan_utf8(&s[start..end]) {
-                        Scan::WellFormed => ReadSpan::Value(v, after),
-                        Scan::IllFormed(_) => ReadSpan::Refused(WireError::NotUtf8),
-                    }
-                }
-                ReadSpan::Refused(e) => ReadSpan::Refused(e),
-            },
-            ReadU8::Refused(e) => ReadSpan::Refused(e),
-        }
+        let (n, next) = self.u8(s)?;
+        let (v, after) = next.span(s, n as usize)?;
+        utf8::scan_utf8(&s[v.start..after.at])?;
+        Ok((v, after))
     }
 
     // Passes over a table, of which only the length is read.
-    pub fn skip_field_table(self, s: &[u8]) -> Skipped
-        ensures { answer_of_skipped result ≡ skip_field_table_at s.now self.at }
+    #[tactic(auto, unfolding(crate::specs::Strings::skip_field_table_at))]
+    pub fn skip_field_table(self, s: &[u8]) -> Read<()>
+        ensures { answer_of result ≡ skip_field_table_at s.now self.at }
     {
-        match self.long_str(s) {
-            ReadSpan::Value(_, next) => Skipped::Next(next),
-            ReadSpan::Refused(e) => Skipped::Refused(e),
-        }
+        let (_, next) = self.long_str(s)?;
+        Ok(((), next))
     }
 }

@@ -60,9 +60,3 @@ pub next-month : (y m : ℕ) → days_before_month y (m + 1) ≡ days_before_mon
 next-month y m =
     let one : m + 1 ≡ suc m = omega arith in
     ap (days_before_month y) one ∙ month-step y m
-
--- a day of the year that lies behind a month has another month to be in
-pub month-left : (y m left : ℕ) → m ≤ 12 → days_before_month y m + left < days_of_year y → days_of_month y m ≤ left → m < 12
-month-left y m left h d o =
-    let last : m ≡ 12 → ⊥ = λ e. omega (arith, month-step y m, ap (λ (n : ℕ). days_before_month y (suc n)) e, year-months y) in
-    omega (arith, last)

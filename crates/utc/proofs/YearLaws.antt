@@ -1,17 +1,8 @@
 -- Laws of years: the days before a year, by 400 years and by one.
 use mathlib.Core.Path.{◌≡◌, refl, ap, ◌∙◌}
-use mathlib.Core.Bool.{Bool, true, false, cond}
 use Prim.Native.Nat.{ℕ, zero, suc, ◌+◌, ◌-◌, ◌*◌, ◌%◌, ◌≤◌}
 use native.Mathlib.Omega.{arith}
 use Rattle.utc.specs.Calendar.{leap_year, days_of_year, days_before_year}
-
-pub year-long : (y : ℕ) → 365 ≤ days_of_year y
-unfolding days_of_year
-year-long y = go (leap_year y)
-  where
-    go : (b : Bool) → 365 ≤ cond b 366 365
-    go true = omega arith
-    go false = omega arith
 
 -- the leap rule comes again after 400 years, so 400 years have as many days wherever they start
 again : (y : ℕ) → days_of_year (400 + y) ≡ days_of_year y
@@ -47,9 +38,3 @@ pub next-year : (y : ℕ) → 1970 ≤ y → days_before_year ((y + 1) - 1970) �
 next-year y h =
     let one : (y + 1) - 1970 ≡ suc (y - 1970) = omega arith in
     ap days_before_year one ∙ year-step y h
-
--- so a year's number never comes near 2 ^ 64
-pub years-small : (k : ℕ) → 365 * k ≤ days_before_year k
-unfolding days_before_year
-years-small zero = omega arith
-years-small (suc k) = omega (arith, years-small k, year-long (1970 + k))

@@ -1,9 +1,12 @@
 // Dates and times in UTC from POSIX seconds, any 64-bit number of them.
 #![tactic(auto)]
 
-ghost use Rattle.std.specs.Prelude.{◌≡◌, ◌≤◌, ◌<◌};
+ghost use Rattle.std.specs.Prelude.{Some, ◌≡◌, ◌≤◌, ◌<◌};
 ghost use Rattle.utc.specs.Calendar.{leap_year, days_of_year, days_of_month, Shows};
 ghost use Rattle.utc.specs.Parts.{YearOf, MonthOf};
+ghost use Rattle.utc.specs.Text.{text_of};
+
+use std::fmt;
 
 // A moment in UTC by the Gregorian calendar.
 #[derive(Clone, Copy)]
@@ -58,21 +61,21 @@ fn days_of_month(year: u64, month: u8) -> u64
     }
 }
 
-// The day that comes so many days after 1970-01-01. Any 400 years have 146,097 days and are passed over at once, so that the
-// loop makes at most 400 turns, whatever the number.
+// The day that comes so many days after 1970-01-01. Any 400 years have 146,097 days and are passed over at once, so that the day is of
+// one of the 400 years from `first` on, whatever the number.
 fn year_day(days: u64) -> YearDay
     ensures { YearOf result days }
 {
-    let mut year = 1970 + 400 * (days / 146_097);
+    let first = 1970 + 400 * (days / 146_097);
     let mut left = days % 146_097;
-    loop {
+    for year in first..first + 400 {
         let n = days_of_year(year);
         if left < n {
             return YearDay { year, before: left };
         }
         left -= n;
-        year += 1;
     }
+    unreachable!()
 }
 
 // The day of a year that has so many days of the year before it.
@@ -80,9 +83,8 @@ fn month_day(year: u64, before: u64) -> MonthDay
     requires { before < days_of_year year }
     ensures { MonthOf result year before }
 {
-    let mut month: u8 = 1;
     let mut left = before;
-    loop {
+    for month in 1..=12 {
         let n = days_of_month(year, month);
         if left < n {
             return MonthDay {
@@ -91,7 +93,19 @@ fn month_day(year: u64, before: u64) -> MonthDay
             };
         }
         left -= n;
-        month += 1;
+    }
+    unreachable!()
+}
+
+impl fmt::Display for DateTime {
+    ghost output = { λ t. Some (text_of t) };
+
+    fn fmt<W: fmt::Write>(&self, f: &mut fmt::Formatter<W>) -> fmt::Result {
+        write!(
+            f,
+            "{}-{:02}-{:02} {:02}:{:02}:{:02} UTC",
+            self.year, self.month, self.day, self.hour, self.minute, self.second
+        )
     }
 }
 

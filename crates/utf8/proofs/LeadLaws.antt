@@ -18,25 +18,23 @@ and_r : (a b : Bool) → T (a && b) → T b
 and_r true b t = t
 and_r false b t = absurd t
 
-unfoldable pub same : Range → Range → Bool
+abbrev pub same : Range → Range → Bool
 same r q = eqb r.low q.low && eqb r.high q.high
 
 same→ : (r q : Range) → T (same r q) → r ≡ q
-unfolding same
 same→ r q t =
     let l : r.low ≡ q.low = eqb→eq _ _ (and_l (eqb r.low q.low) (eqb r.high q.high) t) in
     let h : r.high ≡ q.high = eqb→eq _ _ (and_r (eqb r.low q.low) (eqb r.high q.high) t) in
     λ i. record { low = l i; high = h i }
 
 module _ {A : Type 0} (eq : A → A → Bool) where
-  unfoldable pub alike : List A → List A → Bool
+  abbrev pub alike : List A → List A → Bool
   alike [] [] = true
   alike [] (y ∷ ys) = false
   alike (x ∷ xs) [] = false
   alike (x ∷ xs) (y ∷ ys) = eq x y && alike xs ys
 
   alike→ : ((x y : A) → T (eq x y) → x ≡ y) → (xs ys : List A) → T (alike xs ys) → xs ≡ ys
-  unfolding alike
   alike→ f [] [] t = refl
   alike→ f [] (y ∷ ys) t = absurd t
   alike→ f (x ∷ xs) [] t = absurd t
@@ -46,12 +44,11 @@ module _ {A : Type 0} (eq : A → A → Bool) where
       cc
 
 -- a test at l, l + 1, .., l + n - 1
-unfoldable pub all_from : (ℕ → Bool) → ℕ → ℕ → Bool
+abbrev pub all_from : (ℕ → Bool) → ℕ → ℕ → Bool
 all_from p l zero = true
 all_from p l (suc n) = p l && all_from p (suc l) n
 
 all_from→ : (p : ℕ → Bool) (l n : ℕ) → T (all_from p l n) → (x : ℕ) → l ≤ x → x < l + n → T (p x)
-unfolding all_from
 all_from→ p l zero t x h k = absurd (omega arith)
 all_from→ p l (suc n) t x h k =
     ⊎_elim
@@ -60,10 +57,9 @@ all_from→ p l (suc n) t x h k =
     (eq-or-lt_of_le h)
 
 -- the ranges rs follow every first octet from l to h
-unfoldable pub follows : List (List Range) → ℕ → Bool
+abbrev pub follows : List (List Range) → ℕ → Bool
 follows rs x = alike (alike same) rs (followers x)
 
 -- computed once for each arm of the code, over the whole arm
 pub spanned : (l n : ℕ) (rs : List (List Range)) → T (all_from (follows rs) l n) → (x : ℕ) → l ≤ x → x < l + n → rs ≡ followers x
-unfolding follows
 spanned l n rs t x h k = alike→ (alike same) (alike→ same same→) rs (followers x) (all_from→ (follows rs) l n t x h k)

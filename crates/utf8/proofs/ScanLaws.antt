@@ -1,18 +1,18 @@
 -- Laws of the grammar and of the place of the first fault, as the scan goes through the octets.
 use mathlib.Core.Path.{◌≡◌, refl, sym, ap, ◌∙◌, subst}
 use mathlib.Core.Bool.{Bool, true, false, not, ◌&&◌, cond}
-use mathlib.Core.List.{List, [], ◌∷◌}
+use mathlib.Core.List.{List, [], ◌∷◌, ◌++◌, append_assoc}
 use Prim.Native.Nat.{ℕ, zero, suc, ◌+◌, ◌-◌, ◌≤◌, ◌<◌}
 use native.Mathlib.Nat.{add-zero}
 use native.Mathlib.Numerals.{add-one}
 use native.Mathlib.Omega.{arith}
 use borrow.Author.Tests.{le-leb, lt-leb}
 use lib.Dec.{T, leb, leb→le, nleb→lt}
-use lib.ListN.{length, get_or, drop, drop_of_length-le}
-use lib.Seq.{drop-cons}
+use lib.ListN.{length, get_or, take, drop, take-append-drop, length-drop, get_or-append, drop_of_length-le}
+use lib.Seq.{drop-cons, drop-append_seam, get_or-drop}
 use Rattle.utf8.specs.Utf8.{Range, Shape, to, holds, shapes, followers_in, followers, begins, Character, follow, ill_formed, character_in, character, Fault, none, at, after, fault_from, fault, is_none, utf8}
 use Rattle.utf8.specs.AnswerOf.{ranges, Ascii}
-use Rattle.utf8.proofs.LeadLaws.{same, alike, all_from, follows, spanned}
+use Rattle.utf8.proofs.LeadLaws.{spanned}
 
 -- ---- a character, by what follows its first octet
 
@@ -142,7 +142,7 @@ ill-formed s e = ap is_none (sym e)
 -- ---- octets below 128 are characters by themselves
 
 pub fault-ascii : (s : List ℕ) (i : ℕ) {F : Fault} → F ≡ fault_from 0 i (drop i s) → i < length s → get_or s i 0 < 0x80 → F ≡ fault_from 0 (i + 1) (drop (i + 1) s)
-unfolding all_from follows same alike followers
+unfolding followers
 fault-ascii s i f h a =
     let alone = spanned 0 0x80 ([] ∷ []) tt (get_or s i 0) (omega arith) (omega arith) in
     verdict-done s i 0 0x80 0xBF 0 (i + 1) (verdict-begun s i 0 0x80 0xBF f h alone) (omega arith) (omega arith) (omega arith)
@@ -177,6 +177,26 @@ pub ascii-next : (s : List ℕ) (a b : ℕ) → Ascii s a b → get_or s b 0 < 0
 unfolding Ascii
 ascii-next s a b f h = ascii-join s a b b (b + 1) (omega arith) f (λ i l u. let e : i ≡ b = omega arith in rw e h)
 
-pub ascii-less : (s : List ℕ) (a b c : ℕ) → c ≤ b → Ascii s a b → Ascii s a c
+-- of octets in front of others, and of those from a place on
+ascii-front : {s : List ℕ} (xs rest : List ℕ) → s ≡ xs ++ rest → Ascii xs 0 (length xs) → Ascii s 0 (length xs)
 unfolding Ascii
-ascii-less s a b c h f i l u = f i l (omega arith)
+ascii-front {s} xs rest e a i l u = rw (e, get_or-append xs rest 0 i u) (a i l u)
+
+ascii-back : (s : List ℕ) {part : List ℕ} (d : ℕ) → part ≡ drop d s → Ascii part 0 (length part) → Ascii s d (length s)
+unfolding Ascii
+ascii-back s {part} d e a i l u =
+    let own : d + (i - d) ≡ i = omega arith in
+    let at : get_or part (i - d) 0 ≡ get_or s i 0 = ap (λ (x : List ℕ). get_or x (i - d) 0) e ∙ get_or-drop d s (i - d) 0 ∙ ap (λ (j : ℕ). get_or s j 0) own in
+    let n : length part ≡ length s - d = ap length e ∙ length-drop d s in
+    rw (← at) (a (i - d) (omega arith) (omega arith))
+
+-- octets behind others
+pub ascii-more : (xs ys : List ℕ) → Ascii xs 0 (length xs) → Ascii ys 0 (length ys) → Ascii (xs ++ ys) 0 (length (xs ++ ys))
+ascii-more xs ys f g =
+    ascii-join (xs ++ ys) 0 (length xs) (length xs) (length (xs ++ ys)) (omega arith) (ascii-front xs ys refl f) (ascii-back (xs ++ ys) (length xs) (sym (drop-append_seam xs ys)) g)
+
+-- octets in front, xs and rest being the first k, and those from a place among xs on
+pub ascii-over : (s : List ℕ) {part : List ℕ} (xs rest : List ℕ) (k d : ℕ) → take k s ≡ xs ++ rest → Ascii xs 0 (length xs) → part ≡ drop d s → Ascii part 0 (length part) → d ≤ length xs → none ≡ fault s
+ascii-over s xs rest k d e f p g h =
+    let whole : s ≡ xs ++ (rest ++ drop k s) = sym (take-append-drop k s) ∙ ap (λ (front : List ℕ). front ++ drop k s) e ∙ append_assoc xs rest (drop k s) in
+    ascii-all s (length s) refl (ascii-join s 0 (length xs) d (length s) h (ascii-front xs (rest ++ drop k s) whole f) (ascii-back s d p g))

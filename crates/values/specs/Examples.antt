@@ -1,17 +1,17 @@
 -- Values at some words: today's date, a number below zero, NaNs with their bits.
 use Rattle.std.specs.Prelude.{◌≡◌, refl, negsuc}
-use Rattle.std.proofs.Math.Option.{some}
+use Rattle.std.specs.Prelude.{Some}
 use Rattle.std.specs.Float.Ieee.{nan_bits}
 use Rattle.values.specs.Values.{leaf, words_of, f32_value, f64_value, value_of}
 use Rattle.values.specs.declared.FieldValue.TheVariants.{I16, Timestamp}
 
 -- T, 2026-11-15 00:00:01 as POSIX seconds
-timestamp : value_of (leaf 84 1794700801 0) ≡ some (Timestamp 1794700801)
+timestamp : value_of (leaf 84 1794700801 0) ≡ Some (Timestamp 1794700801)
 unfolding value_of
 timestamp = refl
 
 -- a tilt of -2: FF FE
-below-zero : (words_of (I16 (negsuc 1)) ≡ leaf 115 0xFFFE 0) × (value_of (leaf 115 0xFFFE 0) ≡ some (I16 (negsuc 1)))
+below-zero : (words_of (I16 (negsuc 1)) ≡ leaf 115 0xFFFE 0) × (value_of (leaf 115 0xFFFE 0) ≡ Some (I16 (negsuc 1)))
 unfolding value_of
 below-zero = (refl, refl)
 

@@ -1,4 +1,3 @@
 -- The specification of leaf values.
 pub mod Values
-pub mod AnswerOf
 mod Examples

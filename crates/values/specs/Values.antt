@@ -1,7 +1,7 @@
 -- Leaf values and their words on the tape: document 01, "types.rs: tables and the tape", letters by the RabbitMQ errata.
 -- Signed numbers are two's complement at their own width, floats their bits, unused words 0.
 use Rattle.std.specs.Prelude.{ℕ, ◌^◌, cond, List, [], ◌∷◌, ltb, eqb}
-use Rattle.std.proofs.Math.Option.{Option, none, some}
+use Rattle.std.specs.Prelude.{Option, None, Some}
 use Rattle.std.specs.Float.{binary32, binary64}
 use Rattle.std.specs.Float.Ieee.{to_bits}
 use Rattle.bits.specs.Signed.{twos, signed}
@@ -57,13 +57,13 @@ f64_value n = as_f64 (float_of binary64 n)
 
 -- a value whose second word is unused, and one whose first word is also below a limit
 abbrev pub unused : ℕ → FieldValue → Option FieldValue
-unused b v = cond (eqb b 0) (some v) none
+unused b v = cond (eqb b 0) (Some v) None
 
 abbrev pub within : ℕ → ℕ → ℕ → FieldValue → Option FieldValue
-within limit a b v = cond (ltb a limit) (unused b v) none
+within limit a b v = cond (ltb a limit) (unused b v) None
 
 abbrev pub decimal_of : ℕ → ℕ → Option FieldValue
-decimal_of a b = cond (ltb a (2 ^ 8)) (cond (ltb b (2 ^ 32)) (some (value.Decimal a (signed 32 b))) none) none
+decimal_of a b = cond (ltb a (2 ^ 8)) (cond (ltb b (2 ^ 32)) (Some (value.Decimal a (signed 32 b))) None) None
 
 -- from the two words to the value
 abbrev pub FromWords : Type 0
@@ -82,12 +82,12 @@ leaf_letters =
     ∷ row 102 (λ a b. within (2 ^ 32) a b (f32_value a))  -- f
     ∷ row 100 (λ a b. unused b (f64_value a))  -- d
     ∷ row 68 decimal_of  -- D
-    ∷ row 83 (λ a b. some (value.LongStr (span a b)))  -- S
-    ∷ row 120 (λ a b. some (value.Bytes (span a b)))  -- x
+    ∷ row 83 (λ a b. Some (value.LongStr (span a b)))  -- S
+    ∷ row 120 (λ a b. Some (value.Bytes (span a b)))  -- x
     ∷ row 84 (λ a b. unused b (value.Timestamp a))  -- T
     ∷ row 86 (λ a b. within 1 a b value.Void)  -- V
     ∷ []
 
 -- none where the letter has no leaf value, a number is outside its range or an unused word is not 0
 unfoldable pub value_of : LeafWords → Option FieldValue
-value_of w = lookup (λ a b. none) leaf_letters w.letter w.first w.second
+value_of w = lookup (λ a b. None) leaf_letters w.letter w.first w.second

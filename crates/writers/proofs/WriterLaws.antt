@@ -1,52 +1,61 @@
 -- What a writer puts, and the three ways out of it: refused, no space, written.
 use mathlib.Core.Path.{◌≡◌, refl, sym, ap, ◌∙◌}
 use mathlib.Core.Bool.{true, false}
-use mathlib.Core.List.{List, [], ◌∷◌, ◌++◌, append_assoc}
-use mathlib.Core.Option.{Option, none, some}
-use Prim.Native.Nat.{ℕ, suc, ◌+◌, ◌-◌, ◌/◌, ◌%◌, ◌≤◌, ◌<◌}
+use mathlib.Core.List.{List, [], ◌++◌, append_assoc}
+use Rattle.std.specs.Prelude.{Option, None, Some}
+use Prim.Native.Nat.{ℕ, ◌+◌, ◌-◌, ◌/◌, ◌%◌, ◌≤◌, ◌<◌}
 use native.Mathlib.Omega.{arith}
-use native.Mathlib.Numerals.{add-one}
-use lib.ListN.{length, set, get_or, take, drop, length-append, length-drop}
-use lib.Seq.{paste, take-length, take_all, length-take-le, take-suc, take-suc-set, take-add, take_at, drop_at, drop-drop, get_or-drop}
+use lib.ListN.{length, take, drop, length-append, length-drop}
+use lib.Seq.{paste, take-length, take_all, length-take-le, take-add, take_at, drop_at, drop-drop}
+use borrow.Rule.Slice.PartMut.{put_mid}
+use mir.Syntax.{w16, w32, w64}
+use Rattle.std.specs.Int.{to_be_bytes}
+use Rattle.std.proofs.lemmas.Slice.{put_mid-paste}
 use Rattle.utf8.specs.Utf8.{utf8}
-use Rattle.types.specs.Answer.{Refusal, given, refused, short_str_too_long, not_utf8, too_long, no_space}
+use Rattle.types.specs.Answer.{Refusal, given, refused, short_str_too_long, not_utf8, no_space}
 use Rattle.types.specs.Octets.{octets}
-use Rattle.types.specs.Strings.{short_str, long_str}
+use Rattle.types.specs.Strings.{short_str, judge_short_str}
 use Rattle.types.specs.Memory.{splice, Outcome, outcome}
-use Rattle.writers.specs.Writers.{write_at, write_uint, write_short_str, write_long_str}
+use Rattle.writers.specs.Writers.{write_at, write_short_str}
 use Rattle.types.proofs.Tests.{leb_yes, leb_no}
-use Rattle.types.proofs.Splice.{splice-nil, splice-length, splice-before, splice-after, splice-sets}
+use Rattle.types.proofs.Splice.{splice-nil, splice-length, splice-after}
 use Rattle.types.proofs.NumberLaws.{length-octets}
 
--- the last octet of a number is put, and then the octets before it
-pub put-octet : (at i n : ℕ) (out : List ℕ) → 0 < i → at + i ≤ length out
-    → splice at (octets (i - 1) (n / 256)) (set out (at + (i - 1)) (n % 256)) ≡ splice at (octets i n) out
-put-octet at i n out up h =
-    let j = i - 1 in
-    let l = length-octets j (n / 256) in
-    let one : suc j ≡ i = omega arith in
-    ap (splice at (octets j (n / 256)))
-    (splice-sets (n % 256 ∷ []) out (at + j) (omega arith) ∙ ap (λ (m : ℕ). splice (at + m) (n % 256 ∷ []) out) (sym l))
-    ∙ splice-before at (octets j (n / 256)) (n % 256 ∷ []) out (omega arith)
-    ∙ ap (λ (m : ℕ). splice at (octets m n) out) one
+-- the octets of a number, by the library's word
+pub octets_2 : (n : ℕ) → to_be_bytes w16 (n % 65536) ≡ octets 2 n
+octets_2 n =
+    let a : n % 65536 / 256 % 256 ≡ n / 256 % 256 = omega arith in
+    let b : n % 65536 % 256 ≡ n % 256 = omega arith in
+    rw (a, b) refl
+
+pub octets_4 : (n : ℕ) → to_be_bytes w32 (n % 4294967296) ≡ octets 4 n
+octets_4 n =
+    let a : n % 4294967296 / 16777216 % 256 ≡ n / 256 / 256 / 256 % 256 = omega arith in
+    let b : n % 4294967296 / 65536 % 256 ≡ n / 256 / 256 % 256 = omega arith in
+    let d : n % 4294967296 / 256 % 256 ≡ n / 256 % 256 = omega arith in
+    let e : n % 4294967296 % 256 ≡ n % 256 = omega arith in
+    rw (a, b, d, e) refl
+
+pub octets_8 : (n : ℕ) → to_be_bytes w64 n ≡ octets 8 n
+octets_8 n =
+    let a : n / 72057594037927936 % 256 ≡ n / 256 / 256 / 256 / 256 / 256 / 256 / 256 % 256 = omega arith in
+    let b : n / 281474976710656 % 256 ≡ n / 256 / 256 / 256 / 256 / 256 / 256 % 256 = omega arith in
+    let d : n / 1099511627776 % 256 ≡ n / 256 / 256 / 256 / 256 / 256 % 256 = omega arith in
+    let e : n / 4294967296 % 256 ≡ n / 256 / 256 / 256 / 256 % 256 = omega arith in
+    let f : n / 16777216 % 256 ≡ n / 256 / 256 / 256 % 256 = omega arith in
+    let g : n / 65536 % 256 ≡ n / 256 / 256 % 256 = omega arith in
+    rw (a, b, d, e, f, g) refl
 
 -- octets put one behind another are one piece
 pub paste_all : (out : List ℕ) (at : ℕ) (s : List ℕ) (i : ℕ) → i ≡ length s → paste out at s i ≡ splice at s out
 unfolding splice
 paste_all out at s i e = rw (e, take-length)
 
--- octets by way of a part: one more of them is in it, and all of them are out of it
-pub part-next : (part s : List ℕ) (start i : ℕ) → i < length part → start + i < length s → take i part ≡ take i (drop start s)
-    → take (i + 1) (set part i (get_or s (start + i) 0)) ≡ take (i + 1) (drop start s)
-part-next part s start i h k e =
-    let rest : List ℕ = drop start s in
-    let j : i < length rest = omega (arith, length-drop start s) in
-    rw (add-one i)
-    (take-suc-set part i (get_or s (start + i) 0) h
-    ∙ ap (λ (r : List ℕ). r ++ get_or s (start + i) 0 ∷ []) e
-    ∙ ap (λ (x : ℕ). take i rest ++ x ∷ []) (sym (get_or-drop start s i 0))
-    ∙ sym (take-suc rest i 0 j))
+-- octets copied into a place are put there
+pub part_copied : (out : List ℕ) (at k : ℕ) {ys : List ℕ} (s : List ℕ) → ys ≡ s → length s ≡ k → put_mid at k out ys ≡ splice at s out
+part_copied out at k {ys} s e n = put_mid-paste at k out ys s (length s) e n refl ∙ paste_all out at s (length s) refl
 
+-- octets by way of a part
 pub part-all : (out part s : List ℕ) (to start k : ℕ) → start + k ≤ length s → take k part ≡ take k (drop start s)
     → paste out to part k ≡ splice to (take k (drop start s)) out
 unfolding splice
@@ -107,41 +116,25 @@ module _ (out : List ℕ) (at : ℕ) (s : List ℕ) (fits : at + length s ≤ le
       ∙ parts_join m k (omega arith))
 
 module _ (xs : List ℕ) (at : ℕ) (out : List ℕ) where
-  pub write-refused : (r : Refusal) → write_at (some r) xs at out ≡ outcome (refused r) out
+  pub write-refused : (r : Refusal) → write_at (Some r) xs at out ≡ outcome (refused r) out
   unfolding write_at
   write-refused r = refl
 
-  pub write-full : length out < at + length xs → write_at none xs at out ≡ outcome (refused no_space) out
+  pub write-full : length out < at + length xs → write_at None xs at out ≡ outcome (refused no_space) out
   unfolding write_at
   write-full h = rw (leb_no (at + length xs) (length out) h)
 
-  pub write-given : at + length xs ≤ length out → write_at none xs at out ≡ outcome (given tt (at + length xs)) (splice at xs out)
+  pub write-given : at + length xs ≤ length out → write_at None xs at out ≡ outcome (given tt (at + length xs)) (splice at xs out)
   unfolding write_at
   write-given h = rw (leb_yes (at + length xs) (length out) h)
-
--- a number
-module _ (k n at : ℕ) (out : List ℕ) where
-  pub number-full : length out < at + k → outcome (refused no_space) out ≡ write_uint k n at out
-  unfolding write_uint
-  number-full h = sym (write-full (octets k n) at out (omega (arith, length-octets k n)))
-
-  pub number-given : {m : List ℕ} → at + k ≤ length out → m ≡ splice at (octets k n) out → outcome (given tt (at + k)) m ≡ write_uint k n at out
-  unfolding write_uint
-  number-given h e =
-      let l = length-octets k n in
-      let p : at + k ≡ at + length (octets k n) = omega arith in
-      cc (p, e, write-given (octets k n) at out (omega arith))
 
 -- octets behind their number
 module _ (k : ℕ) (s : List ℕ) (at : ℕ) (out : List ℕ) where
   counted-length : length (octets k (length s) ++ s) ≡ k + length s
   counted-length = length-append (octets k (length s)) s ∙ ap (λ (m : ℕ). m + length s) (length-octets k (length s))
 
-  pub counted-full : length out < at + k + length s → outcome (refused no_space) out ≡ write_at none (octets k (length s) ++ s) at out
-  counted-full h = sym (write-full (octets k (length s) ++ s) at out (omega (arith, counted-length)))
-
   pub counted-given : {l m : List ℕ} → at + k + length s ≤ length out → l ≡ splice at (octets k (length s)) out → m ≡ splice (at + k) s l
-      → outcome (given tt (at + k + length s)) m ≡ write_at none (octets k (length s) ++ s) at out
+      → outcome (given tt (at + k + length s)) m ≡ write_at None (octets k (length s) ++ s) at out
   counted-given h e f =
       let n = length-octets k (length s) in
       let p : at + k + length s ≡ at + length (octets k (length s) ++ s) = omega (arith, counted-length) in
@@ -149,24 +142,22 @@ module _ (k : ℕ) (s : List ℕ) (at : ℕ) (out : List ℕ) where
       let g = splice-after at (octets k (length s)) s out (omega arith) in
       cc (p, q, e, f, g, write-given (octets k (length s) ++ s) at out (omega (arith, counted-length)))
 
--- strings
-module _ (s : List ℕ) (at : ℕ) (out : List ℕ) where
-  pub short-too-long : 255 < length s → outcome (refused short_str_too_long) out ≡ write_short_str s at out
+-- what is judged of a short string
+module _ (s : List ℕ) where
+  pub short-too-long : 255 < length s → Some short_str_too_long ≡ judge_short_str s
+  short-too-long h = rw (leb_no (length s) 255 h) refl
+
+  pub short-not-utf8 : length s ≤ 255 → utf8 s ≡ false → Some not_utf8 ≡ judge_short_str s
+  short-not-utf8 h u = rw (leb_yes (length s) 255 h, u) refl
+
+  pub short-good : length s ≤ 255 → utf8 s ≡ true → None ≡ judge_short_str s
+  short-good h u = rw (leb_yes (length s) 255 h, u) refl
+
+  -- and what is written after it
+  pub short-refused : (at : ℕ) (out : List ℕ) {r : Refusal} → Some r ≡ judge_short_str s → outcome (refused r) out ≡ write_short_str s at out
+  unfolding write_short_str write_at
+  short-refused at out e = ap (λ (r : Option Refusal). write_at r (short_str s) at out) e
+
+  pub short-written : (at : ℕ) (out : List ℕ) {o : Outcome Unit} → None ≡ judge_short_str s → o ≡ write_at None (short_str s) at out → o ≡ write_short_str s at out
   unfolding write_short_str
-  short-too-long h = sym (ap (λ (r : Option Refusal). write_at r (short_str s) at out) (rw (leb_no (length s) 255 h)) ∙ write-refused (short_str s) at out short_str_too_long)
-
-  pub short-not-utf8 : length s ≤ 255 → utf8 s ≡ false → outcome (refused not_utf8) out ≡ write_short_str s at out
-  unfolding write_short_str
-  short-not-utf8 h u = sym (ap (λ (r : Option Refusal). write_at r (short_str s) at out) (rw (leb_yes (length s) 255 h, u)) ∙ write-refused (short_str s) at out not_utf8)
-
-  pub short-written : {o : Outcome Unit} → length s ≤ 255 → utf8 s ≡ true → o ≡ write_at none (short_str s) at out → o ≡ write_short_str s at out
-  unfolding write_short_str
-  short-written h u e = e ∙ sym (ap (λ (r : Option Refusal). write_at r (short_str s) at out) (rw (leb_yes (length s) 255 h, u)))
-
-  pub long-too-long : 4294967295 < length s → outcome (refused too_long) out ≡ write_long_str s at out
-  unfolding write_long_str
-  long-too-long h = sym (ap (λ (r : Option Refusal). write_at r (long_str s) at out) (rw (leb_no (length s) 4294967295 h)) ∙ write-refused (long_str s) at out too_long)
-
-  pub long-written : {o : Outcome Unit} → length s ≤ 4294967295 → o ≡ write_at none (long_str s) at out → o ≡ write_long_str s at out
-  unfolding write_long_str
-  long-written h e = e ∙ sym (ap (λ (r : Option Refusal). write_at r (long_str s) at out) (rw (leb_yes (length s) 4294967295 h)))
+  short-written at out e f = f ∙ ap (λ (r : Option Refusal). write_at r (short_str s) at out) e

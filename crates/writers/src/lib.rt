@@ -1,36 +1,45 @@
-// Writers into lent octets at a place. Each judges first, so that a refusal has written nothing.
+// Writers into lent octets at a place, which goes in, and the next one comes out with the answer, as a reader's position does: a struct
+// of both would have to be put back after a refusal, and C lends them apart. Each judges first, so that a refusal has written nothing.
 #![tactic(auto)]
 
-ghost use Rattle.std.specs.Prelude.{◌≡◌, ◌++◌, ◌+◌, ◌≤◌, length, take, drop};
-ghost use Rattle.std.proofs.Math.Option.{none};
-ghost use Rattle.types.specs.Octets.{octets};
+ghost use Rattle.std.specs.Prelude.{◌≡◌, ◌++◌, ◌+◌, ◌≤◌, length, take, drop, None};
+ghost use Rattle.types.specs.Octets.{number_width, octets};
 ghost use Rattle.bits.specs.Signed.{twos};
+ghost use Rattle.types.specs.AnswerOf.{judgement};
 ghost use Rattle.types.specs.Memory.{splice, outcome};
+ghost use Rattle.types.specs.Strings.{judge_short_str};
 ghost use Rattle.writers.specs.Writers.{write_at, write_uint, write_octets, write_short_str, write_long_str};
 ghost use Rattle.writers.specs.AnswerOf.{answer_of_written};
 
-use bits::{unsigned8, unsigned16, unsigned32, unsigned64};
-use types::WireError;
-use utf8::Scan;
+pub use types::has_octets;
+use types::{Number, WireError};
 
-// The position behind what was written.
-#[derive(Clone, Copy)]
-pub enum Written {
-    Next(usize),
-    Refused(WireError),
+// The greatest length of a long string or a table: what four octets tell.
+pub const MAX_LENGTH: usize = 0xFFFF_FFFF;
+
+// The position behind what was written, or the refusal.
+pub type Written = Result<usize, WireError>;
+
+// Puts octets of a known number where they all have space.
+#[tactic(auto, using(crate::proofs::WriterLaws::part_copied))]
+fn put_array<const N: usize>(out: &mut [u8], at: usize, octets: [u8; N])
+    requires { at + N ≤ length out.old }
+    ensures { out.new ≡ splice at octets.entry out.old }
+{
+    out[at..at + N].copy_from_slice(&octets);
 }
 
-// Puts the k octets of n where they all have space, the last one first.
-fn put_number(out: &mut [u8], at: usize, k: usize, n: u64)
-    requires { at + k ≤ length out.old }
-    ensures { out.new ≡ splice at (octets k n) out.old }
+// Puts the low octets of n, as many as the width has, where they all have space.
+#[tactic(auto, using(crate::proofs::WriterLaws::octets_2, crate::proofs::WriterLaws::octets_4, crate::proofs::WriterLaws::octets_8))]
+fn put_number(out: &mut [u8], at: usize, width: Number, n: u64)
+    requires { at + number_width width ≤ length out.old }
+    ensures { out.new ≡ splice at (octets (number_width width) n) out.old }
 {
-    let mut i = k;
-    let mut rest = n;
-    while 0 < i {
-        i -= 1;
-        out[at + i] = (rest % 256) as u8;
-        rest /= 256;
+    match width {
+        Number::U8 => put_array(out, at, [(n % 0x100) as u8]),
+        Number::U16 => put_array(out, at, ((n % 0x1_0000) as u16).to_be_bytes()),
+        Number::U32 => put_array(out, at, ((n % 0x1_0000_0000) as u32).to_be_bytes()),
+        Number::U64 => put_array(out, at, n.to_be_bytes()),
     }
 }
 
@@ -38,34 +47,29 @@ fn put_number(out: &mut [u8], at: usize, k: usize, n: u64)
 // twenty times as long where the two places lie badly to each other.
 const PART: usize = 0x0800;
 
-// Octets one by one.
+// Octets one by one: to write three takes 63 instructions so, and 70 with a copy of the slice.
 fn put_each(out: &mut [u8], at: usize, s: &[u8])
     requires { at + length s.now ≤ length out.old }
     ensures { out.new ≡ splice at s.now out.old }
 {
-    let mut i = 0;
-    while i < s.len() {
-        out[at + i] = s[i];
-        i += 1;
+    for (i, octet) in s.iter().enumerate() {
+        out[at + i] = *octet;
     }
 }
 
 // Moves k octets by way of a part. It overlaps neither slice, so the compiler makes one move of the two loops, in registers or by
-// memmove, and the part goes; of a loop from slice to slice it makes no memmove, since the two might overlap.
+// memmove, and the part goes; of one loop from slice to slice it makes no memmove, since the two might overlap. The library's
+// copy_from_slice in place of both was tried: to write 8 octets took 69 instructions in place of 58.
 fn put_part(out: &mut [u8], to: usize, s: &[u8], from: usize, k: usize)
     requires { (k ≤ 2048) × (from + k ≤ length s.now) × (to + k ≤ length out.old) }
     ensures { out.new ≡ splice to (take k (drop from s.now)) out.old }
 {
     let mut part = [0u8; PART];
-    let mut i = 0;
-    while i < k {
+    for i in 0..k {
         part[i] = s[from + i];
-        i += 1;
     }
-    let mut j = 0;
-    while j < k {
+    for j in 0..k {
         out[to + j] = part[j];
-        j += 1;
     }
 }
 
@@ -79,7 +83,9 @@ fn put_ends(out: &mut [u8], at: usize, s: &[u8], k: usize)
     put_part(out, at + last, s, last, k);
 }
 
-// Any number of octets, a part at a time.
+// Any number of octets, a part at a time. i is the place in both slices: with `for part in s.chunks(PART)` that in out would be counted
+// beside them, which is no plainer. Chunks that copy_from_slice copies in place of put_part were tried: to write 64 octets took 104
+// instructions in place of 89, and 65,536 took 7,812 in place of 7,370.
 fn put_parts(out: &mut [u8], at: usize, s: &[u8])
     requires { at + length s.now ≤ length out.old }
     ensures { out.new ≡ splice at s.now out.old }
@@ -98,127 +104,129 @@ fn put_octets(out: &mut [u8], at: usize, s: &[u8])
     requires { at + length s.now ≤ length out.old }
     ensures { out.new ≡ splice at s.now out.old }
 {
-    let n = s.len();
-    if n < 4 {
-        put_each(out, at, s);
-    } else if n <= 8 {
-        put_ends(out, at, s, 4);
-    } else if n <= 16 {
-        put_ends(out, at, s, 8);
-    } else if n <= 32 {
-        put_ends(out, at, s, 16);
-    } else {
-        put_parts(out, at, s);
+    match s.len() {
+        0..=3 => put_each(out, at, s),
+        4..=8 => put_ends(out, at, s, 4),
+        9..=16 => put_ends(out, at, s, 8),
+        17..=32 => put_ends(out, at, s, 16),
+        _ => put_parts(out, at, s),
     }
 }
 
-// A number of k octets.
-fn write_number(out: &mut [u8], at: usize, k: usize, n: u64) -> Written
-    ensures { outcome (answer_of_written result) out.new ≡ write_uint k n at out.old }
+// The low octets of a number: as many as the width has.
+#[tactic(auto, unfolding(crate::specs::Writers::write_uint, crate::specs::Writers::write_at))]
+pub fn write_number(out: &mut [u8], at: usize, width: Number, n: u64) -> Written
+    ensures { outcome (answer_of_written result) out.new ≡ write_uint (number_width width) n at out.old }
 {
-    if out.len() < at {
-        return Written::Refused(WireError::NoSpace);
+    let k = width.octets();
+    if !has_octets(out, at, k) {
+        return Err(WireError::NoSpace);
     }
-    if out.len() - at < k {
-        return Written::Refused(WireError::NoSpace);
-    }
-    put_number(out, at, k, n);
-    Written::Next(at + k)
+    put_number(out, at, width, n);
+    Ok(at + k)
 }
 
-// Octets behind their number, which has k octets.
-fn write_counted(out: &mut [u8], at: usize, k: usize, s: &[u8]) -> Written
-    ensures { outcome (answer_of_written result) out.new ≡ write_at none (octets k (length s.now) ++ s.now) at out.old }
+// Octets behind their number. The caller has judged that the width has it.
+#[tactic(auto, unfolding(crate::specs::Writers::write_at))]
+fn write_counted(out: &mut [u8], at: usize, width: Number, s: &[u8]) -> Written
+    ensures { outcome (answer_of_written result) out.new ≡ write_at None (octets (number_width width) (length s.now) ++ s.now) at out.old }
 {
-    if out.len() < at {
-        return Written::Refused(WireError::NoSpace);
+    let k = width.octets();
+    if !has_octets(out, at, k + s.len()) {
+        return Err(WireError::NoSpace);
     }
-    let space = out.len() - at;
-    if space < k {
-        return Written::Refused(WireError::NoSpace);
-    }
-    if space - k < s.len() {
-        return Written::Refused(WireError::NoSpace);
-    }
-    put_number(out, at, k, s.len() as u64);
+    put_number(out, at, width, s.len() as u64);
     put_octets(out, at + k, s);
-    Written::Next(at + k + s.len())
+    Ok(at + k + s.len())
 }
 
+// One writer for each type, as the Rust has them and as document 01 names the methods that read them.
 pub fn write_u8(out: &mut [u8], at: usize, n: u8) -> Written
     ensures { outcome (answer_of_written result) out.new ≡ write_uint 1 n at out.old }
 {
-    write_number(out, at, 1, n as u64)
+    write_number(out, at, Number::U8, n as u64)
 }
 
 pub fn write_u16(out: &mut [u8], at: usize, n: u16) -> Written
     ensures { outcome (answer_of_written result) out.new ≡ write_uint 2 n at out.old }
 {
-    write_number(out, at, 2, n as u64)
+    write_number(out, at, Number::U16, n as u64)
 }
 
 pub fn write_u32(out: &mut [u8], at: usize, n: u32) -> Written
     ensures { outcome (answer_of_written result) out.new ≡ write_uint 4 n at out.old }
 {
-    write_number(out, at, 4, n as u64)
+    write_number(out, at, Number::U32, n as u64)
 }
 
 pub fn write_u64(out: &mut [u8], at: usize, n: u64) -> Written
     ensures { outcome (answer_of_written result) out.new ≡ write_uint 8 n at out.old }
 {
-    write_number(out, at, 8, n)
+    write_number(out, at, Number::U64, n)
 }
 
 pub fn write_i8(out: &mut [u8], at: usize, z: i8) -> Written
     ensures { outcome (answer_of_written result) out.new ≡ write_uint 1 (twos 8 z) at out.old }
 {
-    write_u8(out, at, unsigned8(z))
+    write_u8(out, at, z.cast_unsigned())
 }
 
 pub fn write_i16(out: &mut [u8], at: usize, z: i16) -> Written
     ensures { outcome (answer_of_written result) out.new ≡ write_uint 2 (twos 16 z) at out.old }
 {
-    write_u16(out, at, unsigned16(z))
+    write_u16(out, at, z.cast_unsigned())
 }
 
 pub fn write_i32(out: &mut [u8], at: usize, z: i32) -> Written
     ensures { outcome (answer_of_written result) out.new ≡ write_uint 4 (twos 32 z) at out.old }
 {
-    write_u32(out, at, unsigned32(z))
+    write_u32(out, at, z.cast_unsigned())
 }
 
 pub fn write_i64(out: &mut [u8], at: usize, z: i64) -> Written
     ensures { outcome (answer_of_written result) out.new ≡ write_uint 8 (twos 64 z) at out.old }
 {
-    write_u64(out, at, unsigned64(z))
+    write_u64(out, at, z.cast_unsigned())
 }
 
 // Octets as they are.
+#[tactic(auto, unfolding(crate::specs::Writers::write_octets, crate::specs::Writers::write_at))]
 pub fn write_octets(out: &mut [u8], at: usize, s: &[u8]) -> Written
     ensures { outcome (answer_of_written result) out.new ≡ write_octets s.now at out.old }
 {
-    write_counted(out, at, 0, s)
+    if !has_octets(out, at, s.len()) {
+        return Err(WireError::NoSpace);
+    }
+    put_octets(out, at, s);
+    Ok(at + s.len())
 }
 
-// A short string: its length, then whether it is UTF-8, then the space is judged.
+// What a short string must be: 255 octets at most, then UTF-8.
+pub fn judge_short_str(s: &[u8]) -> Result<(), WireError>
+    ensures { judgement result ≡ judge_short_str s.now }
+{
+    if 255 < s.len() {
+        return Err(WireError::ShortStrTooLong);
+    }
+    utf8::scan_utf8(s)?;
+    Ok(())
+}
+
+// A short string is judged, then the space.
 pub fn write_short_str(out: &mut [u8], at: usize, s: &[u8]) -> Written
     ensures { outcome (answer_of_written result) out.new ≡ write_short_str s.now at out.old }
 {
-    if 255 < s.len() {
-        return Written::Refused(WireError::ShortStrTooLong);
-    }
-    match utf8::scan_utf8(s) {
-        Scan::WellFormed => write_counted(out, at, 1, s),
-        Scan::IllFormed(_) => Written::Refused(WireError::NotUtf8),
-    }
+    judge_short_str(s)?;
+    write_counted(out, at, Number::U8, s)
 }
 
 // A long string: its length, then the space is judged.
+#[tactic(auto, unfolding(crate::specs::Writers::write_long_str, crate::specs::Writers::write_at))]
 pub fn write_long_str(out: &mut [u8], at: usize, s: &[u8]) -> Written
     ensures { outcome (answer_of_written result) out.new ≡ write_long_str s.now at out.old }
 {
-    if 4294967295 < s.len() {
-        return Written::Refused(WireError::TooLong);
+    if MAX_LENGTH < s.len() {
+        return Err(WireError::TooLong);
     }
-    write_counted(out, at, 4, s)
+    write_counted(out, at, Number::U32, s)
 }

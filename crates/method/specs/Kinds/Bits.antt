@@ -1,6 +1,6 @@
 -- A bit octet, lowest bit first: a flag in each place that is true.
 use Rattle.std.specs.Prelude.{Bool, true, false, cond, List, [], ◌∷◌, ℕ, ◌+◌, ◌*◌, ◌/◌, ◌%◌, get_or, eqb}
-use Rattle.std.proofs.Math.Option.{Option, none, some}
+use Rattle.std.specs.Prelude.{Option, None, Some}
 use Rattle.bits.specs.Flags.{bit}
 use Rattle.types.specs.Answer.{Answer, given, refused, not_written, and_then}
 use Rattle.types.specs.Octets as number
@@ -20,18 +20,18 @@ octet_of (true ∷ places) flags = bit flags.0 + 2 * octet_of places flags.1
 
 -- the flags of an octet n; none if a bit without one is set
 abbrev pub with_flag : {A : Type 0} → Bool → Option A → Option (Bool × A)
-with_flag f none = none
-with_flag f (some flags) = some (f, flags)
+with_flag f None = None
+with_flag f (Some flags) = Some (f, flags)
 
 unfoldable pub flags_in : (places : List Bool) → ℕ → Option (Flags places)
-flags_in [] n = cond (eqb n 0) (some tt) none
-flags_in (false ∷ places) n = cond (eqb (n % 2) 1) none (flags_in places (n / 2))
+flags_in [] n = cond (eqb n 0) (Some tt) None
+flags_in (false ∷ places) n = cond (eqb (n % 2) 1) None (flags_in places (n / 2))
 flags_in (true ∷ places) n = with_flag (eqb (n % 2) 1) (flags_in places (n / 2))
 
 -- a field at p whose value is none is NotWritten there
 abbrev pub written_at : {A : Type 0} → ℕ → Option A → ℕ → Answer A
-written_at p none q = refused (not_written p)
-written_at p (some a) q = given a q
+written_at p None q = refused (not_written p)
+written_at p (Some a) q = given a q
 
 -- the flags alone as a word, the first one lowest, and back
 
@@ -55,8 +55,8 @@ bits_kind places =
       meaning = λ pool t flags. flags;
       at = λ letters s p room. and_then (uint_at 1 s p) (λ n q. written_at p (flags_in places n) q);
       octets = λ letters flags. number.octets 1 (octet_of places flags);
-      judge = λ letters pool tape flags. none;
-      judge_length = λ letters flags. none;
+      judge = λ letters pool tape flags. None;
+      judge_length = λ letters flags. None;
       Typed = λ flags. Unit {0};
       NoNul = λ flags. Unit {0};
       tape = λ flags. [];

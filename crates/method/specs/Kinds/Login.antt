@@ -1,6 +1,6 @@
 -- A login, in a long string: NUL user NUL password (RFC 4616).
 use Rattle.std.specs.Prelude.{◌≡◌, false, cond, List, [], ◌∷◌, ◌++◌, ℕ, suc, ◌+◌, ◌-◌, length, drop, eqb}
-use Rattle.std.proofs.Math.Option.{Option, none, some}
+use Rattle.std.specs.Prelude.{Option, None, Some}
 use Rattle.utf8.specs.Utf8.{utf8}
 use Rattle.types.specs.Answer.{Answer, Refusal, given, refused, not_utf8, not_written, and_then, need}
 use Rattle.types.specs.Strings.{octets_of, long_str, long_str_at, judge_length}
@@ -24,17 +24,17 @@ NoNul (x ∷ xs) = (eqb x 0 ≡ false) × NoNul xs
 -- Read: the place of the first NUL
 
 abbrev pub one_more : Option ℕ → Option ℕ
-one_more none = none
-one_more (some n) = some (suc n)
+one_more None = None
+one_more (Some n) = Some (suc n)
 
 unfoldable pub until_nul : List ℕ → Option ℕ
-until_nul [] = none
-until_nul (x ∷ xs) = cond (eqb x 0) (some 0) (one_more (until_nul xs))
+until_nul [] = None
+until_nul (x ∷ xs) = cond (eqb x 0) (Some 0) (one_more (until_nul xs))
 
 -- the length of the user in a login string: a NUL, the user up to the next NUL, the password
 abbrev pub user_length : List ℕ → Option ℕ
-user_length [] = none
-user_length (x ∷ xs) = cond (eqb x 0) (until_nul xs) none
+user_length [] = None
+user_length (x ∷ xs) = cond (eqb x 0) (until_nul xs) None
 
 abbrev pub login_spans : Span → ℕ → Login Span
 login_spans v m =
@@ -48,8 +48,8 @@ login_utf8 s x q = need (utf8 (octets_of s x.user)) not_utf8 (need (utf8 (octets
 
 -- first NotWritten at its length field p, then NotUtf8
 abbrev pub login_in : List ℕ → ℕ → Span → Option ℕ → ℕ → Answer (Login Span)
-login_in s p v none q = refused (not_written p)
-login_in s p v (some m) q = login_utf8 s (login_spans v m) q
+login_in s p v None q = refused (not_written p)
+login_in s p v (Some m) q = login_utf8 s (login_spans v m) q
 
 -- Judged: the user's span and text, then the password's
 abbrev pub judge_text : List ℕ → Span → Option Refusal → Option Refusal
@@ -65,7 +65,7 @@ login_kind =
       meaning = λ pool t x. record { user = octets_of pool x.user; password = octets_of pool x.password };
       at = λ letters s p room. and_then (long_str_at s p) (λ v q. login_in s p v (user_length (octets_of s v)) q);
       octets = λ letters x. long_str (login_text x);
-      judge = λ letters pool tape x. judge_text pool x.user (judge_text pool x.password none);
+      judge = λ letters pool tape x. judge_text pool x.user (judge_text pool x.password None);
       judge_length = λ letters x. judge_length (length (login_text x));
       Typed = λ x. Unit {0};
       NoNul = λ x. NoNul x.user;

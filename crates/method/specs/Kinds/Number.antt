@@ -1,5 +1,5 @@
 -- A number of k octets.
-use Rattle.std.proofs.Math.Option.{none}
+use Rattle.std.specs.Prelude.{None}
 use Rattle.std.specs.Prelude.{[], ◌∷◌, ℕ, ◌^◌, ◌%◌, ◌<◌, get_or}
 use Rattle.types.specs.Octets as number
 use Rattle.types.specs.Octets.{uint_at}
@@ -15,8 +15,8 @@ number_kind k =
       meaning = λ pool t n. n;
       at = λ letters s p room. uint_at k s p;
       octets = λ letters n. number.octets k n;
-      judge = λ letters pool tape n. none;
-      judge_length = λ letters n. none;
+      judge = λ letters pool tape n. None;
+      judge_length = λ letters n. None;
       Typed = λ n. n < 256 ^ k;
       NoNul = λ n. Unit {0};
       tape = λ n. [];

@@ -1,5 +1,5 @@
 -- A short string. A span outside the pool has fewer octets than it needs: Truncated, judged before the string's length.
-use Rattle.std.proofs.Math.Option.{Option, none}
+use Rattle.std.specs.Prelude.{Option, None}
 use Rattle.std.specs.Prelude.{List, [], ◌∷◌, ℕ, get_or}
 use Rattle.types.specs.Answer.{Refusal, truncated}
 use Rattle.types.specs.Strings.{octets_of, short_str, short_str_at, judge_short_str}
@@ -26,7 +26,7 @@ short_str_kind =
       at = λ letters s p room. short_str_at s p;
       octets = λ letters xs. short_str xs;
       judge = λ letters pool tape v. judge_span pool v (judge_short_str (octets_of pool v));
-      judge_length = λ letters xs. none;
+      judge_length = λ letters xs. None;
       Typed = λ v. Unit {0};
       NoNul = λ xs. Unit {0};
       tape = λ v. [];

@@ -8,4 +8,4 @@ use Rattle.payload_words.proofs.header_from.Goals as goal
 pub returns : goal.returns
 returns c =
     let all_words : length c.args.words ≡ 26 = search rules in
-    header-taken c.args.words _ _ (all_words) c.put_words.ensures c.header_of.ensures
+    header-taken c.args.words _ _ all_words c.copy_from_slice.ensures.after (rw (c.low_u16.ensures, c.low_u16-2.ensures) at c.header_of.ensures)

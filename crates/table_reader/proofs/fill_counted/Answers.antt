@@ -6,14 +6,14 @@ use Rattle.table_reader.proofs.fill_counted.Goals as goal
 pub fill_table-requires : goal.fill_table-requires
 fill_table-requires c =
     let a = c.args in
-    table_fits errata a.s.now a.start a.used a.tape.now _ _ c.requires c.if-count-ne0.true
+    table_fits errata a.s.now a.at.at a.used a.tape.now _ _ c.requires c.if-count-ne0.true
 
 pub returns-then-count-ne0 : goal.returns-then-count-ne0
 returns-then-count-ne0 c =
     let a = c.args in
-    table_filled errata a.s.now a.start a.used a.tape.now _ _ c.requires _ _ c.fill_table.ensures
+    table_filled errata a.s.now a.at.at a.used a.tape.now _ _ c.requires _ _ c.fill_table.ensures
 
 pub returns-else-count-ne0 : goal.returns-else-count-ne0
 returns-else-count-ne0 c =
     let a = c.args in
-    table_empty errata a.s.now a.start a.used a.tape.now _ _ c.requires c.if-count-ne0.false
+    table_empty errata a.s.now a.at.at a.used a.tape.now _ _ c.requires c.if-count-ne0.false

@@ -1,11 +1,10 @@
 -- `table_reader::read_field_table` meets its contract. Assumes nothing.
+use mathlib.Core.Path.{sym}
+use Rattle.std.proofs.Common.{rules}
 use Rattle.tables.specs.Letters.{errata}
-use Rattle.table_reader.proofs.ReaderLaws.{judged-table, table-refused}
+use Rattle.table_reader.proofs.ReaderLaws.{table-refused}
 use Rattle.table_reader.proofs.read_field_table.Goals as goal
 
-pub returns-in-Refused : goal.returns-in-Refused
-returns-in-Refused c =
-    let a = c.args in
-    let counted = judged-table errata a.s.now a.at.at a.used a.tape.now _ _ _
-    c.room.ensures c.judge_field_table.ensures c.in-Refused.is in
-    table-refused errata a.s.now a.at.at a.used a.tape.now _ counted
+pub returns-in_err-count : goal.returns-in_err-count
+returns-in_err-count c =
+    rw (← (table-refused errata _ _ _ _ _ (rw c.room.ensures at (sym c.in_err-count.ensures)))) (search rules)

@@ -1,25 +1,25 @@
 -- `table_reader::read_field_value` meets its contract. Assumes nothing.
-use mathlib.Core.Path.{sym, ap, ◌∙◌}
-use native.Mathlib.Omega.{arith}
+use mathlib.Core.Path.{sym}
+use Rattle.std.proofs.Common.{rules}
+use Rattle.types.proofs.StringLaws.{span_at-read}
 use Rattle.tables.specs.Letters.{errata}
-use Rattle.tables.specs.Reading.{lone_value_at}
-use Rattle.table_reader.specs.Counting.{count_records}
-use Rattle.table_reader.specs.AnswerOf.{answer_of_records}
-use Rattle.table_reader.proofs.ReaderLaws.{value-refused, value_there, value-fits, value-filled}
+use Rattle.table_reader.proofs.ReaderLaws.{value-refused, value-alone, value-fits, value-filled}
 use Rattle.table_reader.proofs.read_field_value.Goals as goal
 
-pub overflow_add-start : goal.overflow_add-start
-overflow_add-start c =
-    omega (arith, value_there errata c.args.s.now c.args.at.at c.args.used c.args.tape.now _ _ (ap (λ free. count_records (lone_value_at errata c.args.s.now c.args.at.at free)) (sym c.room.ensures) ∙ sym c.judge_field_value.ensures ∙ ap answer_of_records c.in-Value.is))
+pub returns-in_err-count : goal.returns-in_err-count
+returns-in_err-count c =
+    rw (← (value-refused errata _ _ _ _ _ (rw c.room.ensures at (sym c.in_err-count.ensures)))) (search rules)
+
+pub unwrap-requires : goal.unwrap-requires
+unwrap-requires c =
+    value-alone errata _ _ _ _ _ _ (rw c.room.ensures at (sym c.in_ok-count.ensures)) c.span.result c.span.ensures
 
 pub fill_entries-requires : goal.fill_entries-requires
 fill_entries-requires c =
-    value-fits errata c.args.s.now c.args.at.at c.args.used c.args.tape.now _ _ (ap (λ free. count_records (lone_value_at errata c.args.s.now c.args.at.at free)) (sym c.room.ensures) ∙ sym c.judge_field_value.ensures ∙ ap answer_of_records c.in-Value.is)
+    let alone = span_at-read 1 _ _ (rw c.unwrap.ensures at c.span.ensures) in
+    rw (alone.start, alone.len) (value-fits errata _ _ _ _ _ _ (rw c.room.ensures at (sym c.in_ok-count.ensures)))
 
-pub returns-in-Refused : goal.returns-in-Refused
-returns-in-Refused c =
-    value-refused errata c.args.s.now c.args.at.at c.args.used c.args.tape.now _ (ap (λ free. count_records (lone_value_at errata c.args.s.now c.args.at.at free)) (sym c.room.ensures) ∙ sym c.judge_field_value.ensures ∙ ap answer_of_records c.in-Refused.is)
-
-pub returns-in-Value : goal.returns-in-Value
-returns-in-Value c =
-    value-filled errata c.args.s.now c.args.at.at c.args.used c.args.tape.now _ _ (ap (λ free. count_records (lone_value_at errata c.args.s.now c.args.at.at free)) (sym c.room.ensures) ∙ sym c.judge_field_value.ensures ∙ ap answer_of_records c.in-Value.is) _ _ c.fill_entries.ensures
+pub returns : goal.returns
+returns c =
+    let alone = span_at-read 1 _ _ (rw c.unwrap.ensures at c.span.ensures) in
+    value-filled errata _ _ _ _ _ _ (rw c.room.ensures at (sym c.in_ok-count.ensures)) _ _ (rw (alone.start, alone.len) at c.fill_entries.ensures)

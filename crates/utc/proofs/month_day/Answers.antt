@@ -1,26 +1,18 @@
 -- `utc::month_day` meets its contract. The invariant: the days before the month and those left are all. Assumes nothing.
-use Prim.Native.Nat.{◌<◌}
+use mathlib.Core.Path.{◌≡◌, ap}
 use native.Mathlib.Omega.{arith}
-use Rattle.utc.proofs.MonthLaws.{first-month, next-month, month-left}
+use Rattle.utc.specs.Calendar.{days_before_month}
+use Rattle.utc.proofs.MonthLaws.{first-month, next-month, year-months}
 use Rattle.utc.proofs.month_day.Goals as goal
-use Rattle.utc.proofs.month_day.Goals.{Else-left-n}
 
--- a day that is not of the month is of a later one
-another : (c : Else-left-n) → c.loop-left.month < 12
-another c =
-    let l = c.loop-left in
-    month-left c.args.year l.month l.left (omega arith) (omega arith) (omega arith)
+pub loop-month-init : goal.loop-month-init
+loop-month-init c = omega (arith, first-month c.args.year)
 
-pub loop-left-init : goal.loop-left-init
-loop-left-init c =
-    (omega arith, omega arith, omega (arith, first-month c.args.year))
+pub loop-month-preserved : goal.loop-month-preserved
+loop-month-preserved c =
+    omega (arith, next-month c.args.year c.loop-month.month)
 
-pub loop-left-smaller : goal.loop-left-smaller
-loop-left-smaller c =
-    let more = another (goal.at.loop-left-smaller c).Else-left-n in omega arith
-
-pub loop-left-preserved : goal.loop-left-preserved
-loop-left-preserved c =
-    let more = another (goal.at.loop-left-preserved c).Else-left-n in
-    let next = next-month c.args.year c.loop-left.month in
-    omega arith
+pub unreachable-requires : goal.unreachable-requires
+unreachable-requires c =
+    let last : c.loop-month.month ≡ 13 = omega arith in
+    omega (arith, ap (days_before_month c.args.year) last, year-months c.args.year)

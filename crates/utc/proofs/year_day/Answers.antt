@@ -1,25 +1,25 @@
 -- `utc::year_day` meets its contract. The invariant: the days before the year and those left are all. Assumes nothing.
 use mathlib.Core.Path.{◌≡◌, ap}
-use Prim.Native.Nat.{◌+◌, ◌-◌, ◌*◌, ◌/◌}
+use Prim.Native.Nat.{ℕ, ◌+◌, ◌-◌, ◌*◌, ◌/◌}
 use native.Mathlib.Omega.{arith}
 use Rattle.utc.specs.Calendar.{days_before_year}
-use Rattle.utc.proofs.YearLaws.{cycles, next-year, year-long, years-small}
+use Rattle.utc.proofs.YearLaws.{cycles, next-year}
 use Rattle.utc.proofs.year_day.Goals as goal
 
-pub loop-left-init : goal.loop-left-init
-loop-left-init c =
-    let d = c.args.days in
-    let whole : (1970 + 400 * (d / 146097)) - 1970 ≡ 400 * (d / 146097) = omega arith in
-    (omega arith, omega (arith, ap days_before_year whole, cycles (d / 146097)))
+-- the days before a year that lies so many times 400 years after 1970
+before-cycles : (c y : ℕ) → y ≡ 1970 + 400 * c → days_before_year (y - 1970) ≡ 146097 * c
+before-cycles c y e =
+    let whole : y - 1970 ≡ 400 * c = omega arith in omega (arith, ap days_before_year whole, cycles c)
 
-pub overflow_add-year-in-loop-left : goal.overflow_add-year-in-loop-left
-overflow_add-year-in-loop-left c =
-    omega (arith, years-small (c.loop-left.year - 1970))
+pub loop-year-init : goal.loop-year-init
+loop-year-init c =
+    let q = c.args.days / 146097 in
+    (omega arith, omega (arith, before-cycles q (1970 + 400 * q) (omega arith)))
 
-pub loop-left-smaller : goal.loop-left-smaller
-loop-left-smaller c =
-    omega (arith, year-long c.loop-left.year)
+pub loop-year-preserved : goal.loop-year-preserved
+loop-year-preserved c =
+    (omega arith, omega (arith, next-year c.loop-year.year c.loop-year.invariant.0))
 
-pub loop-left-preserved : goal.loop-left-preserved
-loop-left-preserved c =
-    (omega arith, omega (arith, next-year c.loop-left.year c.loop-left.invariant.0))
+pub unreachable-requires : goal.unreachable-requires
+unreachable-requires c =
+    omega (arith, before-cycles (c.args.days / 146097 + 1) c.loop-year.year (omega arith))

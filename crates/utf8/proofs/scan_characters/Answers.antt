@@ -14,7 +14,7 @@ loop-left-init c = (
   omega arith,
   omega arith,
   refl,
-  verdict-begun _ _ _ _ _ c.scan.invariant.1 (omega arith) (ap answer_of_lead (sym c.in-More.is) ∙ c.lead_of.ensures),
+  verdict-begun _ _ _ _ _ c.scan.invariant.1 (omega arith) (ap answer_of_lead (sym c.in-Some.is) ∙ c.lead_of.ensures),
 )
 
 pub scan-preserved : goal.scan-preserved

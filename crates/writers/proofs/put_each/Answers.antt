@@ -1,10 +1,10 @@
 -- `writers::put_each` meets its contract. Assumes nothing.
-use mathlib.Core.Path.{◌≡◌, sym, ap, ◌∙◌}
+use mathlib.Core.Path.{sym, ap, ◌∙◌}
 use mathlib.Core.List.{List}
 use Prim.Native.Nat.{◌+◌}
 use native.Mathlib.Numerals.{add-one}
 use native.Mathlib.Omega.{arith}
-use lib.ListN.{length, set, get_or, length-set}
+use lib.ListN.{set, get_or, length-set}
 use lib.Seq.{paste, paste-suc}
 use Rattle.writers.proofs.WriterLaws.{paste_all}
 use Rattle.writers.proofs.put_each.Goals as goal
@@ -13,16 +13,14 @@ pub loop-i-preserved : goal.loop-i-preserved
 loop-i-preserved c =
     let a = c.args in
     let l = c.loop-i in (
-      omega arith,
-      ap (λ (o : List _). set o (a.at + l.i) (get_or a.s.now l.i 0)) l.invariant.1
-          ∙ paste-suc a.out.now a.at a.s.now l.i 0 (omega arith) c.loop-i-test.true
+      ap (λ (o : List _). set o (a.at + l.i) (get_or a.s.now l.i 0)) l.invariant.0
+          ∙ paste-suc a.out.now a.at a.s.now l.i 0 (omega arith) (omega arith)
           ∙ ap (paste a.out.now a.at a.s.now) (sym (add-one l.i)),
-      simp length-set l.invariant.2,
+      simp length-set l.invariant.1,
     )
 
 pub returns : goal.returns
 returns c =
     let a = c.args in
     let l = c.loop-i in
-    let end : l.i ≡ length a.s.now = omega arith in
-    l.invariant.1 ∙ paste_all a.out.now a.at a.s.now l.i end
+    l.invariant.0 ∙ paste_all a.out.now a.at a.s.now l.i (omega arith)

@@ -14,11 +14,10 @@ loop-j-preserved c =
     let a = c.args in
     let part = c.loop-i.part in
     let l = c.loop-j in (
-      omega arith,
-      ap (λ (o : List _). set o (a.to + l.j) (get_or part l.j 0)) l.invariant.1
+      ap (λ (o : List _). set o (a.to + l.j) (get_or part l.j 0)) l.invariant.0
           ∙ paste-suc a.out.now a.to part l.j 0 (omega arith) (omega arith)
           ∙ ap (paste a.out.now a.to part) (sym (add-one l.j)),
-      simp length-set l.invariant.2,
+      simp length-set l.invariant.1,
     )
 
 pub returns : goal.returns
@@ -28,6 +27,6 @@ returns c =
     let m = c.loop-j in
     let i : l.i ≡ a.k = omega arith in
     let j : m.j ≡ a.k = omega arith in
-    m.invariant.1
+    m.invariant.0
     ∙ ap (paste a.out.now a.to l.part) j
-    ∙ part-all a.out.now l.part a.s.now a.to a.from a.k (omega arith) (rw i at l.invariant.1)
+    ∙ part-all a.out.now l.part a.s.now a.to a.from a.k (omega arith) (rw i at l.invariant.0)

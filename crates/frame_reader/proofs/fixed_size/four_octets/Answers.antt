@@ -1,14 +1,14 @@
 -- `frame_reader::fixed_size::four_octets` meets its contract. Assumes nothing.
-use mathlib.Core.Path.{sym, ap, ◌∙◌}
+use mathlib.Core.Path.{◌≡◌, ap}
+use Prim.Native.Nat.{ℕ, ◌+◌}
 use native.Mathlib.Omega.{arith}
-use Rattle.types.specs.AnswerOf.{answer_of_u32}
-use Rattle.types.proofs.NumberLaws.{uint_at-read, uint_at-short}
+use lib.ListN.{get_or}
+use Rattle.types.specs.Octets.{number_at}
 use Rattle.frame_reader.proofs.fixed_size.four_octets.Goals as goal
 
-pub returns-in-Value : goal.returns-in-Value
-returns-in-Value c =
-    (uint_at-read 4 _ _ (sym (ap answer_of_u32 c.in-Value.is) ∙ c.u32.ensures)).number
-
-pub returns-in-Refused : goal.returns-in-Refused
-returns-in-Refused c =
-    absurd (omega (arith, uint_at-short 4 _ _ (sym (ap answer_of_u32 c.in-Refused.is) ∙ c.u32.ensures), c.requires))
+pub returns : goal.returns
+unfolding number_at
+returns c =
+    let s = c.args.s.now in
+    let first : get_or s (c.args.at + 0) 0 ≡ get_or s c.args.at 0 = ap (λ (i : ℕ). get_or s i 0) (omega arith) in
+    omega (arith, c.from_be_bytes.ensures, first)

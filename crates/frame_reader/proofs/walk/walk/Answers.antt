@@ -7,26 +7,26 @@ use Rattle.frame_reader.proofs.WalkStepLaws.{from_step}
 use Rattle.frame_reader.proofs.WalkInvariant.{start, finish, stop, moved, again}
 use Rattle.frame_reader.proofs.walk.walk.Goals as goal
 
-pub loop-at-init : goal.loop-at-init
-loop-at-init c =
+pub loop-so_far-init : goal.loop-so_far-init
+loop-so_far-init c =
     start errata _ _ _
 
-pub returns-in-Refused : goal.returns-in-Refused
-returns-in-Refused c =
-    stop errata _ _ _ _ _ _ _ _ c.loop-at.invariant c.loop-at-test.true (from_step answer_of_records c.walk_step.ensures c.in-Refused.is)
+pub returns-in-Err : goal.returns-in-Err
+returns-in-Err c =
+    rw c.ended.ensures (stop errata _ _ _ _ _ _ _ _ c.loop-so_far.invariant c.loop-so_far-test.true (from_step answer_of_records c.step.ensures c.in-Err.is))
 
-pub overflow_add-used : goal.overflow_add-used
-overflow_add-used c =
-    let g = again errata _ _ _ _ _ _ _ _ c.loop-at.invariant c.loop-at-test.true (from_step answer_of_records c.walk_step.ensures c.in-Value.is) in omega (arith, g.tape-in, g.same-tape)
+pub overflow_add-so_far : goal.overflow_add-so_far
+overflow_add-so_far c =
+    let g = again errata _ _ _ _ _ _ _ _ c.loop-so_far.invariant c.loop-so_far-test.true (from_step answer_of_records c.step.ensures c.in-Ok.is) in omega (arith, g.tape-in, g.same-tape)
 
-pub loop-at-smaller : goal.loop-at-smaller
-loop-at-smaller c =
-    let m = moved errata _ _ _ _ _ _ _ _ c.loop-at.invariant c.loop-at-test.true (from_step answer_of_records c.walk_step.ensures c.in-Value.is) in omega (arith, m.0, m.1)
+pub loop-so_far-smaller : goal.loop-so_far-smaller
+loop-so_far-smaller c =
+    let m = moved errata _ _ _ _ _ _ _ _ c.loop-so_far.invariant c.loop-so_far-test.true (from_step answer_of_records c.step.ensures c.in-Ok.is) in omega (arith, m.0, m.1)
 
-pub loop-at-preserved : goal.loop-at-preserved
-loop-at-preserved c =
-    again errata _ _ _ _ _ _ _ _ c.loop-at.invariant c.loop-at-test.true (from_step answer_of_records c.walk_step.ensures c.in-Value.is)
+pub loop-so_far-preserved : goal.loop-so_far-preserved
+loop-so_far-preserved c =
+    again errata _ _ _ _ _ _ _ _ c.loop-so_far.invariant c.loop-so_far-test.true (from_step answer_of_records c.step.ensures c.in-Ok.is)
 
 pub returns : goal.returns
 returns c =
-    finish errata _ _ _ _ _ _ _ _ c.loop-at.invariant c.loop-at-test.false
+    rw c.ended-2.ensures (finish errata _ _ _ _ _ _ _ _ c.loop-so_far.invariant c.loop-so_far-test.false)

@@ -14,9 +14,9 @@ use Rattle.method_words.specs.Words.{call_of, header_words}
 use Rattle.payload_words.specs.Words.{call_words, content_header_words}
 use Rattle.frame_reader.proofs.words.read_payload.Goals as goal
 
-pub returns-then-start-end : goal.returns-then-start-end
-returns-then-start-end c =
-    let a = c.args in ap (in_words frame_words (λ x. x.payload) a.payload.now) (heartbeat-refused errata a.s.now (frame_of a.frame) a.next.at a.used a.tape.now c.requires (ap type_octet c.in-Heartbeat.is) (omega (arith, c.if-start-end.true)))
+pub returns-then-len-gt0 : goal.returns-then-len-gt0
+returns-then-len-gt0 c =
+    let a = c.args in ap (in_words frame_words (λ x. x.payload) a.payload.now) (heartbeat-refused errata a.s.now (frame_of a.frame) a.next.at a.used a.tape.now c.requires (ap type_octet c.in-Heartbeat.is) (omega (arith, c.if-len-gt0.true)))
 
 pub returns-in-Method : goal.returns-in-Method
 returns-in-Method c =
@@ -30,6 +30,6 @@ pub returns-in-Body : goal.returns-in-Body
 returns-in-Body c =
     let a = c.args in put-framed (record { channel = a.frame.channel; payload = body a.frame.payload }) a.next.at a.payload.now _ _ _ c.body_words.ensures (body-read errata a.s.now (frame_of a.frame) a.next.at a.used a.tape.now c.requires (ap type_octet c.in-Body.is))
 
-pub returns-else-start-end : goal.returns-else-start-end
-returns-else-start-end c =
-    let a = c.args in put-framed (record { channel = a.frame.channel; payload = heartbeat }) a.next.at a.payload.now _ _ _ c.heartbeat_words.ensures (heartbeat-read errata a.s.now (frame_of a.frame) a.next.at a.used a.tape.now c.requires (ap type_octet c.in-Heartbeat.is) (omega (arith, c.if-start-end.false)))
+pub returns-else-len-gt0 : goal.returns-else-len-gt0
+returns-else-len-gt0 c =
+    let a = c.args in put-framed (record { channel = a.frame.channel; payload = heartbeat }) a.next.at a.payload.now _ _ _ c.heartbeat_words.ensures (heartbeat-read errata a.s.now (frame_of a.frame) a.next.at a.used a.tape.now c.requires (ap type_octet c.in-Heartbeat.is) (omega (arith, c.if-len-gt0.false)))

@@ -1,31 +1,33 @@
 -- `method::fixed::read_fixed` meets its contract. Assumes nothing.
-use mathlib.Core.Path.{ap, ◌∙◌}
-use mathlib.Core.List.{List}
-use Prim.Native.Nat.{ℕ}
+use mathlib.Core.Path.{sym, ◌∙◌}
+use mathlib.Core.Bool.{true, false}
+use native.Mathlib.Omega.{arith}
+use Rattle.std.proofs.Common.{rules}
+use Rattle.types.proofs.StringLaws.{span_at-read}
 use Rattle.method.specs.Reading.{fixed_at}
-use Rattle.method.proofs.FixedLaws.{fixed-zeros, fixed-text, no_text, no-fixed}
+use Rattle.method.proofs.FixedLaws.{same_is, fixed-checked}
 use Rattle.method.proofs.fixed.read_fixed.Goals as goal
 
-pub returns-in-10 : goal.returns-in-10
-returns-in-10 c =
-    let a = c.args in c.read_octets.ensures ∙ ap (λ (xs : List ℕ). fixed_at xs a.s.now a.at.at) (fixed-zeros a.field c.in-10.is)
+pub returns-in_err-next : goal.returns-in_err-next
+unfolding fixed_at
+returns-in_err-next c = rw (← c.octets-octets.ensures, ← c.in_err-next.ensures) (search rules)
 
-pub returns-in-1 : goal.returns-in-1
-returns-in-1 c =
-    let a = c.args in c.read_octets-in-1.ensures ∙ ap (λ (xs : List ℕ). fixed_at xs a.s.now a.at.at) (fixed-text a.field 1 c.in-12.is c.in-1.is)
+pub slice_bounds-eq-count : goal.slice_bounds-eq-count
+slice_bounds-eq-count c =
+    omega (arith, span_at-read _ _ _ c.in_ok-next.ensures)
 
-pub returns-in-2 : goal.returns-in-2
-returns-in-2 c =
-    let a = c.args in c.read_octets-in-2.ensures ∙ ap (λ (xs : List ℕ). fixed_at xs a.s.now a.at.at) (fixed-text a.field 2 c.in-12.is c.in-2.is)
+pub slice_bounds-eq-start : goal.slice_bounds-eq-start
+slice_bounds-eq-start c =
+    omega (arith, span_at-read _ _ _ c.in_ok-next.ensures)
 
-pub returns-in-3 : goal.returns-in-3
-returns-in-3 c =
-    let a = c.args in c.read_octets-in-3.ensures ∙ ap (λ (xs : List ℕ). fixed_at xs a.s.now a.at.at) (fixed-text a.field 3 c.in-12.is c.in-3.is)
+pub slice_bounds-eq-end : goal.slice_bounds-eq-end
+slice_bounds-eq-end c =
+    omega (arith, span_at-read _ _ _ c.in_ok-next.ensures)
 
-pub returns-in_default-digit : goal.returns-in_default-digit
-returns-in_default-digit c =
-    let a = c.args in c.read_octets-in_default-digit.ensures ∙ ap (λ (xs : List ℕ). fixed_at xs a.s.now a.at.at) (no_text a.field c.in-12.is c.in_default-digit.in_default-digit-own.rest)
+pub returns-then-eq : goal.returns-then-eq
+returns-then-eq c =
+    rw (← c.octets-octets.ensures) (fixed-checked _ _ _ _ _ true c.in_ok-next.ensures (sym c.if-eq.true ∙ c.eq.ensures ∙ same_is _ _))
 
-pub returns-in_default : goal.returns-in_default
-returns-in_default c =
-    let a = c.args in c.read_octets-in_default.ensures ∙ ap (λ (xs : List ℕ). fixed_at xs a.s.now a.at.at) (no-fixed a.field c.in_default.in_default-own.rest)
+pub returns : goal.returns
+returns c =
+    rw (← c.octets-octets.ensures) (fixed-checked _ _ _ _ _ false c.in_ok-next.ensures (sym c.if-eq.false ∙ c.eq.ensures ∙ same_is _ _))

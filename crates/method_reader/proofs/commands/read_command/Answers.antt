@@ -1,11 +1,13 @@
+-- `method_reader::commands::read_command` meets its contract. Assumes nothing.
 use Rattle.tables.specs.Letters.{errata}
-use Rattle.method_reader.proofs.KeptLaws.{call_known, call-unknown}
+use Rattle.method_reader.proofs.KeptLaws.{call_known, call_there}
 use Rattle.method_reader.proofs.commands.read_command.Goals as goal
 
-pub returns-in-Known : goal.returns-in-Known
-returns-in-Known c =
-    let a = c.args in call_known errata a.s.now a.at.at a.used a.tape.now (λ i. (c.type_inv.s i).fits) c.read_call.result _ _ _ c.read_call.ensures _ _ _ _ c.in-Value.is c.known_command.result c.known_command.ensures _ c.in-Known.is
+pub unwrap-value-requires : goal.unwrap-value-requires
+unwrap-value-requires c =
+    let a = c.args in call_there errata a.s.now a.at.at a.used a.tape.now (λ i. (c.type_inv.s i).fits) _ _ _ _ _ c.in_ok-call.ensures _ c.known_command.ensures
 
-pub returns-in-Unknown : goal.returns-in-Unknown
-returns-in-Unknown c =
-    let a = c.args in call-unknown errata a.s.now a.at.at a.used a.tape.now (λ i. (c.type_inv.s i).fits) c.read_call.result _ _ _ c.read_call.ensures _ _ _ _ c.in-Value.is c.known_command.result c.known_command.ensures c.in-Unknown.is
+pub returns : goal.returns
+returns c =
+    let a = c.args in
+    call_known errata a.s.now a.at.at a.used a.tape.now (λ i. (c.type_inv.s i).fits) _ _ _ _ _ c.in_ok-call.ensures _ (rw c.unwrap-value.ensures at c.known_command.ensures)

@@ -1,16 +1,16 @@
 -- `method_reader::fields::store_number` meets its contract. Assumes nothing.
-use mathlib.Core.Path.{refl, sym, ap, ◌∙◌}
-use Rattle.types.specs.AnswerOf.{answer_of_u64}
+use mathlib.Core.Path.{refl}
+use Rattle.std.proofs.Common.{rules}
 use Rattle.method.specs.Reading.{arg_at}
 use Rattle.method_reader.proofs.FieldLaws.{stored_refused, stored-given}
 use Rattle.method_reader.proofs.fields.store_number.Goals as goal
 
-pub returns-in-Refused : goal.returns-in-Refused
+pub returns-in_err-n : goal.returns-in_err-n
 unfolding arg_at
-returns-in-Refused c =
-    stored_refused _ _ _ _ _ _ _ _ (sym c.read_uint.ensures ∙ ap answer_of_u64 c.in-Refused.is)
+returns-in_err-n c =
+    stored_refused _ _ _ _ _ _ _ _ _ c.in_err-n.ensures (search rules)
 
-pub returns-in-Value : goal.returns-in-Value
+pub returns : goal.returns
 unfolding arg_at
-returns-in-Value c =
-    stored-given _ _ _ _ _ _ _ _ _ _ (sym c.read_uint.ensures ∙ ap answer_of_u64 c.in-Value.is) refl c.requires refl
+returns c =
+    stored-given _ _ _ _ _ _ _ _ _ _ c.in_ok-n.ensures refl c.requires refl

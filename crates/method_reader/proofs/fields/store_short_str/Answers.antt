@@ -1,17 +1,17 @@
 -- `method_reader::fields::store_short_str` meets its contract. Assumes nothing.
-use mathlib.Core.Path.{refl, sym, ap, ◌∙◌}
-use native.Mathlib.Numerals.{towards_suc}
-use Rattle.types.specs.AnswerOf.{answer_of_span}
+use mathlib.Core.Path.{refl}
+use Rattle.std.proofs.Common.{rules}
 use Rattle.method.specs.Reading.{arg_at}
-use Rattle.method_reader.proofs.FieldLaws.{stored_refused, stored-given}
+use Rattle.method_reader.proofs.FieldLaws.{stored_refused, stored-given, two-put}
 use Rattle.method_reader.proofs.fields.store_short_str.Goals as goal
 
-pub returns-in-Refused : goal.returns-in-Refused
+pub returns-in_err-v : goal.returns-in_err-v
 unfolding arg_at
-returns-in-Refused c =
-    stored_refused _ _ _ _ _ _ _ _ (sym c.short_str.ensures ∙ ap answer_of_span c.in-Refused.is)
+returns-in_err-v c =
+    stored_refused _ _ _ _ _ _ _ _ _ c.in_err-v.ensures (search rules)
 
-pub returns-in-Value : goal.returns-in-Value
+pub returns : goal.returns
 unfolding arg_at
-returns-in-Value c =
-    stored-given _ _ _ _ _ _ _ _ _ _ (sym c.short_str.ensures ∙ ap answer_of_span c.in-Value.is) refl c.requires (simp towards_suc)
+returns c =
+    stored-given _ _ _ _ _ _ _ _ _ _ c.in_ok-v.ensures refl c.requires
+    (two-put c.args.words.now c.copy_from_slice.new.self c.in_ok-v.v.start c.in_ok-v.v.len c.requires (search rules))

@@ -1,19 +1,22 @@
-use mathlib.Core.Path.{sym, ap, ◌∙◌}
-use Rattle.types.specs.AnswerOf.{answer_of_u16}
+-- `method_reader::headers::read_header_words` meets its contract. Assumes nothing.
+use mathlib.Core.Path.{ap, ◌∙◌}
+use Rattle.std.proofs.Common.{rules}
 use Rattle.tables.specs.Letters.{errata}
 use Rattle.method_words.specs.Words.{header_words}
 use Rattle.method_words.specs.InWords.{in_words}
 use Rattle.method_reader.proofs.PropertyLaws.{class-refused, weight-refused, weight-read}
 use Rattle.method_reader.proofs.headers.read_header_words.Goals as goal
 
-pub returns-in-Refused : goal.returns-in-Refused
-returns-in-Refused c =
-    let a = c.args in ap (in_words header_words (λ x. x.words) a.words.now) (class-refused errata a.s.now a.used a.tape.now a.at.at _ (ap answer_of_u16 (sym c.in-Refused.is) ∙ c.u16.ensures))
+pub returns-in_err-class : goal.returns-in_err-class
+returns-in_err-class c =
+    rw (← (class-refused errata _ _ _ _ _ c.in_err-class.ensures)) (search rules)
 
-pub returns-in-Refused-u16 : goal.returns-in-Refused-u16
-returns-in-Refused-u16 c =
-    let a = c.args in ap (in_words header_words (λ x. x.words) a.words.now) (weight-refused errata a.s.now a.used a.tape.now a.at.at _ _ _ (ap answer_of_u16 (sym c.in-Value.is) ∙ c.u16.ensures) (ap answer_of_u16 (sym c.in-Refused-u16.is) ∙ c.u16-in-Value.ensures))
+pub returns-in_err-_weight : goal.returns-in_err-_weight
+returns-in_err-_weight c =
+    rw (← (weight-refused errata _ _ _ _ _ _ _ c.in_ok-class.ensures c.in_err-_weight.ensures)) (search rules)
 
-pub returns-in-Value-u16 : goal.returns-in-Value-u16
-returns-in-Value-u16 c =
-    let a = c.args in c.read_sized.ensures ∙ ap (in_words header_words (λ x. x.words) a.words.now) (weight-read errata a.s.now a.used a.tape.now a.at.at _ _ _ _ (ap answer_of_u16 (sym c.in-Value.is) ∙ c.u16.ensures) (ap answer_of_u16 (sym c.in-Value-u16.is) ∙ c.u16-in-Value.ensures))
+pub returns : goal.returns
+returns c =
+    let a = c.args in
+    c.read_sized.ensures
+    ∙ ap (in_words header_words (λ x. x.words) a.words.now) (weight-read errata a.s.now a.used a.tape.now a.at.at _ _ _ _ c.in_ok-class.ensures c.in_ok-_weight.ensures)

@@ -1,26 +1,23 @@
-use mathlib.Core.Path.{sym, ap, ◌∙◌}
-use native.Mathlib.Omega.{arith}
-use Rattle.types.specs.AnswerOf.{answer_of_u16, answer_of_u64}
-use Rattle.types.proofs.NumberLaws.{uint_at-lt}
-use Rattle.types.proofs.RoundTrip.{number-move}
+-- `method_reader::headers::read_sized` meets its contract. Assumes nothing.
+use mathlib.Core.Path.{ap, ◌∙◌}
+use Rattle.std.proofs.Common.{rules}
 use Rattle.tables.specs.Letters.{errata}
 use Rattle.method_words.specs.Words.{header_words}
 use Rattle.method_words.specs.InWords.{in_words}
 use Rattle.method_reader.proofs.PropertyLaws.{sized-refused, flags-refused, flags-read}
 use Rattle.method_reader.proofs.headers.read_sized.Goals as goal
 
-pub read_properties-requires : goal.read_properties-requires
-read_properties-requires c =
-    let s = c.args.s.now in let e = ap answer_of_u16 (sym c.in-Value-u16.is) ∙ c.u16.ensures in ((number-move 2 s _ _ _ (sym e)).1, omega (arith, uint_at-lt 2 s _ (λ i. (c.type_inv.s i).fits) e))
+pub returns-in_err-body_size : goal.returns-in_err-body_size
+returns-in_err-body_size c =
+    rw (← (sized-refused errata _ _ _ c.args.class _ _ c.in_err-body_size.ensures)) (search rules)
 
-pub returns-in-Refused : goal.returns-in-Refused
-returns-in-Refused c =
-    let a = c.args in ap (in_words header_words (λ x. x.words) a.words.now) (sized-refused errata a.s.now a.used a.tape.now a.class a.at.at _ (ap answer_of_u64 (sym c.in-Refused.is) ∙ c.u64.ensures))
+pub returns-in_err-flags : goal.returns-in_err-flags
+returns-in_err-flags c =
+    rw (← (flags-refused errata _ _ _ c.args.class _ _ _ _ c.in_ok-body_size.ensures c.in_err-flags.ensures)) (search rules)
 
-pub returns-in-Refused-u16 : goal.returns-in-Refused-u16
-returns-in-Refused-u16 c =
-    let a = c.args in ap (in_words header_words (λ x. x.words) a.words.now) (flags-refused errata a.s.now a.used a.tape.now a.class a.at.at _ _ _ (ap answer_of_u64 (sym c.in-Value.is) ∙ c.u64.ensures) (ap answer_of_u16 (sym c.in-Refused-u16.is) ∙ c.u16.ensures))
-
-pub returns-in-Value-u16 : goal.returns-in-Value-u16
-returns-in-Value-u16 c =
-    let a = c.args in c.read_properties.ensures ∙ ap (in_words header_words (λ x. x.words) a.words.now) (flags-read errata a.s.now a.used a.tape.now a.class a.at.at _ _ _ _ (ap answer_of_u64 (sym c.in-Value.is) ∙ c.u64.ensures) (ap answer_of_u16 (sym c.in-Value-u16.is) ∙ c.u16.ensures))
+pub returns : goal.returns
+returns c =
+    let a = c.args in
+    c.read_properties.ensures
+    ∙ ap (in_words header_words (λ x. x.words) a.words.now)
+    (flags-read errata a.s.now a.used a.tape.now a.class a.at.at _ _ _ _ c.in_ok-body_size.ensures c.in_ok-flags.ensures)

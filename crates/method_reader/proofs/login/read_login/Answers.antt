@@ -1,44 +1,51 @@
 -- `method_reader::login::read_login` meets its contract. Assumes nothing.
-use mathlib.Core.Path.{sym, ap, ◌∙◌}
+use mathlib.Core.Path.{sym, ◌∙◌}
 use native.Mathlib.Omega.{arith}
-use borrow.Author.Tests.{eq-eqb, ne_eqb}
-use Rattle.types.specs.AnswerOf.{answer_of_span}
+use Rattle.std.proofs.Common.{rules}
 use Rattle.tables.specs.Letters.{errata}
-use Rattle.method_reader.proofs.LoginLaws.{nul-missing, nul-found, login-refused, login-inside, login-empty, login-other, login-missing, login-found}
+use Rattle.method_reader.proofs.LoginLaws.{up_to, user-none, user-of, login-refused, login-inside, login-none, nul-inside, login-found}
 use Rattle.method_reader.proofs.login.read_login.Goals as goal
 
-pub returns-then-start-end : goal.returns-then-start-end
-returns-then-start-end c =
-    sym (login-empty errata c.args.s.now c.args.at 0 _ _ (sym c.long_str.ensures ∙ ap answer_of_span c.in-Value.is) c.if-start-end.true)
+pub returns-in_err-v : goal.returns-in_err-v
+returns-in_err-v c =
+    rw (login-refused errata _ _ 0 c.in_err-v.ensures) (search rules)
 
-pub bounds-s-start : goal.bounds-s-start
-bounds-s-start c =
-    let l = login-inside errata c.args.s.now c.args.at 0 _ _ (sym c.long_str.ensures ∙ ap answer_of_span c.in-Value.is) in omega (arith, l.0, l.1, c.if-start-end.false)
+pub slice_bounds-strip_prefix-count : goal.slice_bounds-strip_prefix-count
+slice_bounds-strip_prefix-count c =
+    omega (arith, login-inside errata c.args.s.now c.args.at.at 0 _ _ c.in_ok-v.ensures)
 
-pub returns-then-s-start-ne0 : goal.returns-then-s-start-ne0
-returns-then-s-start-ne0 c =
-    let l = login-inside errata c.args.s.now c.args.at 0 _ _ (sym c.long_str.ensures ∙ ap answer_of_span c.in-Value.is) in sym (login-other errata c.args.s.now c.args.at 0 _ _ (sym c.long_str.ensures ∙ ap answer_of_span c.in-Value.is) (omega (arith, l.0, c.if-start-end.false)) (ne_eqb _ _ c.if-s-start-ne0.true))
+pub slice_bounds-strip_prefix-start : goal.slice_bounds-strip_prefix-start
+slice_bounds-strip_prefix-start c =
+    omega (arith, login-inside errata c.args.s.now c.args.at.at 0 _ _ c.in_ok-v.ensures)
 
-pub overflow_add-user : goal.overflow_add-user
-overflow_add-user c =
-    let l = login-inside errata c.args.s.now c.args.at 0 _ _ (sym c.long_str.ensures ∙ ap answer_of_span c.in-Value.is) in record { fits = omega (arith, l.0, l.1, c.if-start-end.false, c.well_formed.0.0) }
+pub slice_bounds-strip_prefix-end : goal.slice_bounds-strip_prefix-end
+slice_bounds-strip_prefix-end c =
+    omega (arith, login-inside errata c.args.s.now c.args.at.at 0 _ _ c.in_ok-v.ensures)
 
-pub nul_before-nul-requires : goal.nul_before-nul-requires
-nul_before-nul-requires c =
-    let l = login-inside errata c.args.s.now c.args.at 0 _ _ (sym c.long_str.ensures ∙ ap answer_of_span c.in-Value.is) in (omega (arith, l.0, c.if-start-end.false), l.1)
+pub returns-in_default : goal.returns-in_default
+returns-in_default c =
+    sym (login-none errata c.args.s.now c.args.at.at 0 _ _ c.in_ok-v.ensures (user-none (up_to c.args.s.now _ _) c.in_default.ensures.cases))
 
-pub returns-then-nul-end : goal.returns-then-nul-end
-returns-then-nul-end c =
-    let l = login-inside errata c.args.s.now c.args.at 0 _ _ (sym c.long_str.ensures ∙ ap answer_of_span c.in-Value.is) in sym (login-missing errata c.args.s.now c.args.at 0 _ _ (sym c.long_str.ensures ∙ ap answer_of_span c.in-Value.is) (omega (arith, l.0, c.if-start-end.false)) (eq-eqb _ _ c.if-s-start-ne0.false) (nul-missing c.args.s.now _ _ _ (omega (arith, l.0, c.if-start-end.false)) l.1 c.nul_before-nul.ensures c.if-nul-end.true))
+pub returns-in_default-first_nul : goal.returns-in_default-first_nul
+returns-in_default-first_nul c =
+    let p = c.in-Some.ensures.cases in
+    sym (login-none errata c.args.s.now c.args.at.at 0 _ _ c.in_ok-v.ensures (user-of (up_to c.args.s.now _ _) _ _ p.0 p.1 c.in_default-first_nul.ensures))
+
+pub overflow_add-user-2 : goal.overflow_add-user-2
+overflow_add-user-2 c =
+    let p = c.in-Some.ensures.cases in
+    let n = nul-inside errata c.args.s.now c.args.at.at 0 _ _ c.in_ok-v.ensures _ (user-of (up_to c.args.s.now _ _) _ _ p.0 p.1 c.in-Some-first_nul.ensures) in
+    let l = login-inside errata c.args.s.now c.args.at.at 0 _ _ c.in_ok-v.ensures in
+    record { fits = omega (arith, n, l.1, c.well_formed.0.0) }
 
 pub login_text-requires : goal.login_text-requires
 login_text-requires c =
-    let l = login-inside errata c.args.s.now c.args.at 0 _ _ (sym c.long_str.ensures ∙ ap answer_of_span c.in-Value.is) in let f = nul-found c.args.s.now _ _ _ (omega (arith, l.0, c.if-start-end.false)) l.1 c.nul_before-nul.ensures c.if-nul-end.false in (f.after, f.before, l.1)
+    let p = c.in-Some.ensures.cases in
+    let n = nul-inside errata c.args.s.now c.args.at.at 0 _ _ c.in_ok-v.ensures _ (user-of (up_to c.args.s.now _ _) _ _ p.0 p.1 c.in-Some-first_nul.ensures) in
+    let l = login-inside errata c.args.s.now c.args.at.at 0 _ _ c.in_ok-v.ensures in
+    (omega arith, omega (arith, n), l.1)
 
-pub returns-in-Refused : goal.returns-in-Refused
-returns-in-Refused c =
-    sym (login-refused errata _ _ 0 _ (sym c.long_str.ensures ∙ ap answer_of_span c.in-Refused.is))
-
-pub returns-else-nul-end : goal.returns-else-nul-end
-returns-else-nul-end c =
-    let l = login-inside errata c.args.s.now c.args.at 0 _ _ (sym c.long_str.ensures ∙ ap answer_of_span c.in-Value.is) in c.login_text.ensures ∙ sym (login-found errata c.args.s.now c.args.at 0 _ _ (sym c.long_str.ensures ∙ ap answer_of_span c.in-Value.is) (omega (arith, l.0, c.if-start-end.false)) (eq-eqb _ _ c.if-s-start-ne0.false) _ (nul-found c.args.s.now _ _ _ (omega (arith, l.0, c.if-start-end.false)) l.1 c.nul_before-nul.ensures c.if-nul-end.false))
+pub returns : goal.returns
+returns c =
+    let p = c.in-Some.ensures.cases in
+    c.login_text.ensures ∙ sym (login-found errata c.args.s.now c.args.at.at 0 _ _ c.in_ok-v.ensures _ (user-of (up_to c.args.s.now _ _) _ _ p.0 p.1 c.in-Some-first_nul.ensures))

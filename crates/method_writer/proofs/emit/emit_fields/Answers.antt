@@ -1,21 +1,21 @@
 -- `method_writer::emit::emit_fields` meets its contract: the fields left, written, write the whole. Assumes nothing.
-use Rattle.method_writer.proofs.EmitLaws.{at-end, turn-ready, turn-absent, turn-present}
+use mathlib.Core.Path.{ap}
+use Rattle.method.specs.Present.{present_fields}
+use Rattle.method_writer.proofs.EmitLaws.{at-start, at-end, turn-ready, turn-next}
 use Rattle.method_writer.proofs.emit.emit_fields.Goals as goal
-use Rattle.method_writer.proofs.emit.emit_fields.Goals.{then-weight-flags, else-weight-flags}
+
+pub loop-field-init : goal.loop-field-init
+loop-field-init c =
+    at-start (ap present_fields c.into_iter-field-iterator.ensures.into_iter_gives) c.requires.0 c.requires.1
 
 pub emit_field-at-requires : goal.emit_field-at-requires
 emit_field-at-requires c =
-    let r = turn-ready c.loop-i.invariant c.loop-i-test.true c.if-weight-flags.true in
-    (r.words, r.ready)
+    turn-ready c.loop-field.invariant c.in-Some.field c.in-Some.ensures.steps
 
-pub loop-i-preserved : goal.loop-i-preserved
-loop-i-preserved c =
-    elim c.if-weight-flags.branch [
-      | then-weight-flags w ↦
-          rw (w.out-is, w.flags-is, w.at-is, w.j-is, w.width_of-j.ensures) (turn-present c.loop-i.invariant c.loop-i-test.true w.if-weight-flags.true w.emit_field-at.ensures)
-      | else-weight-flags w ↦ rw (w.out-is, w.flags-is, w.at-is, w.j-is) (turn-absent c.loop-i.invariant c.loop-i-test.true w.if-weight-flags.false)
-    ]
+pub loop-field-preserved : goal.loop-field-preserved
+loop-field-preserved c =
+    turn-next c.loop-field.invariant c.in-Some.field c.in-Some.ensures.steps c.emit_field-at.ensures c.width_of.ensures
 
 pub returns : goal.returns
 returns c =
-    at-end c.loop-i.invariant c.loop-i-test.false
+    at-end c.loop-field.invariant c.in-None.ensures.steps.0

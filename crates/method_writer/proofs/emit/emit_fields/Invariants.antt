@@ -1,10 +1,6 @@
-use Prim.Native.Nat.{◌-◌}
-use lib.ListN.{length}
+use Rattle.method.specs.Present.{present_fields}
 use Rattle.method_writer.proofs.EmitLaws.{Going}
 use Rattle.method_writer.proofs.emit.emit_fields.Given as goal
 
-abbrev pub invariant-loop-i : goal.invariant-loop-i
-invariant-loop-i l = Going l.pool l.tape l.words l.layout l.present l.from l.initial.out l.out l.flags l.weight l.at l.j l.i
-
-abbrev pub decreases-loop-i : goal.decreases-loop-i
-decreases-loop-i l = length l.layout - l.i
+abbrev pub invariant-loop-field : goal.invariant-loop-field
+invariant-loop-field l = Going l.pool l.tape (present_fields l.fn.fields) l.fn.words l.from l.initial.out (present_fields l.field-iterator) l.rest l.at l.out

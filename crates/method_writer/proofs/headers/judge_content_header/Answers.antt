@@ -1,45 +1,34 @@
 -- `method_writer::headers::judge_content_header` meets its contract. Assumes nothing.
-use mathlib.Core.Path.{◌≡◌, ◌∙◌}
+use mathlib.Core.Path.{◌∙◌}
 use mathlib.Core.List.{[]}
 use native.Mathlib.Omega.{arith}
-use borrow.Author.Rules.{rules}
-use lib.ListN.{length}
+use Rattle.std.proofs.Common.{rules}
 use Rattle.tables.specs.Letters.{errata}
-use Rattle.method.specs.Properties.{flags_of}
-use Rattle.method_writer.proofs.WriteLaws.{size-refused, size-long, size-octets, fields-small, header_fields, header_head, header-asked, header-size}
+use Rattle.method.specs.Present.{present_fields}
+use Rattle.method_writer.proofs.WriteLaws.{size-refused, size-octets, fields-small, header_head, header-asked, header-size}
 use Rattle.method_writer.proofs.headers.judge_content_header.Goals as goal
 
 pub size_fields-requires : goal.size_fields-requires
 size_fields-requires c =
-    header-asked [] [] c.args.header c.header_words-head.result c.property_fields-layout.result c.header_words-head.ensures c.property_fields-layout.ensures (search rules) (search rules)
+    header-asked c.header_words-head.result c.properties_present.ensures (search rules)
 
 pub overflow_add-result : goal.overflow_add-result
 overflow_add-result c =
-    let h = c.header_words-head.result in
-    let layout = c.property_fields-layout.result in
-    let thirteen : length layout ≡ 13 = search rules in
-    omega (arith, thirteen, fields-small c.args.pool.now c.args.tape.now (flags_of 13 h.present) layout h.words c.in-Octets.n c.in-Octets.ensures)
+    omega (arith, fields-small c.args.pool.now c.args.tape.now c.properties_present.result c.header_words-head.result.words c.in_ok-n.n c.in_ok-n.ensures)
 
-pub returns-in-Refused : goal.returns-in-Refused
-returns-in-Refused c =
+pub returns-in_err-n : goal.returns-in_err-n
+returns-in_err-n c =
     let a = c.args in
     let h = c.header_words-head.result in
-    let layout = c.property_fields-layout.result in
-    size-refused errata a.pool.now a.tape.now (header_fields h layout) h.words (header_head h) _ c.in-Refused.ensures
-    ∙ header-size a.pool.now a.tape.now a.header h layout c.header_words-head.ensures c.property_fields-layout.ensures
+    let fs = present_fields c.properties_present.result in
+    rw (← size-refused errata a.pool.now a.tape.now fs h.words (header_head h) 0 [] _ c.in_err-n.ensures
+    ∙ header-size a.pool.now a.tape.now a.header h fs c.header_words-head.ensures c.properties_present.ensures)
+    (search rules)
 
-pub returns-in-TooLong : goal.returns-in-TooLong
-returns-in-TooLong c =
+pub returns : goal.returns
+returns c =
     let a = c.args in
     let h = c.header_words-head.result in
-    let layout = c.property_fields-layout.result in
-    size-long errata a.pool.now a.tape.now (header_fields h layout) h.words (header_head h) c.in-TooLong.ensures
-    ∙ header-size a.pool.now a.tape.now a.header h layout c.header_words-head.ensures c.property_fields-layout.ensures
-
-pub returns-in-Octets : goal.returns-in-Octets
-returns-in-Octets c =
-    let a = c.args in
-    let h = c.header_words-head.result in
-    let layout = c.property_fields-layout.result in
-    size-octets errata a.pool.now a.tape.now (header_fields h layout) h.words (header_head h) _ c.in-Octets.ensures
-    ∙ header-size a.pool.now a.tape.now a.header h layout c.header_words-head.ensures c.property_fields-layout.ensures
+    let fs = present_fields c.properties_present.result in
+    size-octets errata a.pool.now a.tape.now fs h.words (header_head h) 0 [] _ c.in_ok-n.ensures
+    ∙ header-size a.pool.now a.tape.now a.header h fs c.header_words-head.ensures c.properties_present.ensures

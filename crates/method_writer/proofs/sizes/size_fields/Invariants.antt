@@ -1,10 +1,6 @@
-use Prim.Native.Nat.{◌-◌}
-use lib.ListN.{length}
+use Rattle.method.specs.Present.{present_fields}
 use Rattle.method_writer.proofs.SizeLaws.{Going}
 use Rattle.method_writer.proofs.sizes.size_fields.Given as goal
 
-abbrev pub invariant-loop-i : goal.invariant-loop-i
-invariant-loop-i l = Going l.layout l.words l.pool l.tape l.present l.flags l.weight l.too_long l.size l.j l.i
-
-abbrev pub decreases-loop-i : goal.decreases-loop-i
-decreases-loop-i l = length l.layout - l.i
+abbrev pub invariant-loop-field : goal.invariant-loop-field
+invariant-loop-field l = Going l.pool l.tape (present_fields l.fn.fields) l.fn.words l.size (present_fields l.field-iterator) l.rest

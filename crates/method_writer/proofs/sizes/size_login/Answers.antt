@@ -1,21 +1,20 @@
 -- `method_writer::sizes::size_login` meets its contract: the user, then the password, then their lengths. Assumes nothing.
-use mathlib.Core.Path.{◌∙◌}
-use Rattle.method_writer.proofs.SizeLaws.{not-octets, user-refused, password-refused, login-given}
-use borrow.Author.Rules.{rules}
+use mathlib.Core.Path.{refl, ◌∙◌}
+use Rattle.std.proofs.Common.{rules}
+use Rattle.method_writer.proofs.SizeLaws.{words-behind, user-refused, password-refused, login-given}
 use Rattle.method_writer.proofs.sizes.size_login.Goals as goal
 
-pub returns-in-Octets-size_text : goal.returns-in-Octets-size_text
-returns-in-Octets-size_text c =
+pub returns-in_err-user : goal.returns-in_err-user
+returns-in_err-user c =
     let a = c.args in
-    c.login_size.ensures
-    ∙ login-given a.pool.now a.words.now a.j _ c.in-Octets.ensures _ c.in-Octets-size_text.ensures
+    rw (← user-refused a.pool.now a.words.now c.span_of.ensures refl _ c.in_err-user.ensures) (search rules)
 
-pub returns-in_default-size_text : goal.returns-in_default-size_text
-returns-in_default-size_text c =
+pub returns-in_err-password : goal.returns-in_err-password
+returns-in_err-password c =
     let a = c.args in
-    password-refused a.pool.now a.words.now a.j _ c.in-Octets.ensures _ (not-octets c.size_text-in-Octets.result (search rules)) c.size_text-in-Octets.ensures
+    rw (← password-refused a.pool.now a.words.now c.span_of.ensures (rw (words-behind 2 a.words.now) at c.span_of-2.ensures) _ c.in_ok-user.ensures _ c.in_err-password.ensures) (search rules)
 
-pub returns-in_default : goal.returns-in_default
-returns-in_default c =
+pub returns : goal.returns
+returns c =
     let a = c.args in
-    user-refused a.pool.now a.words.now a.j _ (not-octets c.size_text.result (search rules)) c.size_text.ensures
+    c.login_size.ensures ∙ login-given a.pool.now a.words.now c.span_of.ensures (rw (words-behind 2 a.words.now) at c.span_of-2.ensures) _ c.in_ok-user.ensures _ c.in_ok-password.ensures

@@ -11,7 +11,7 @@ abbrev pub decreases-fill_value : goal.decreases-fill_value
 decreases-fill_value l = l.levels * 2
 
 abbrev pub invariant-fill_entries-loop-here : goal.invariant-fill_entries-loop-here
-invariant-fill_entries-loop-here l = Going errata l.levels l.named l.s l.start l.end l.initial.tape l.k l.tape l.here l.record
+invariant-fill_entries-loop-here l = Going errata l.levels l.named l.s l.fn.body.start l.end l.initial.tape l.k l.tape l.here.at l.record
 
 abbrev pub decreases-fill_entries-loop-here : goal.decreases-fill_entries-loop-here
 decreases-fill_entries-loop-here l = length l.initial.tape - l.record

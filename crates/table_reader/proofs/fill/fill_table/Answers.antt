@@ -1,17 +1,18 @@
 -- `table_reader::fill::fill_table` meets its contract. Assumes nothing.
-use mathlib.Core.Path.{sym, ap, ◌∙◌}
-use Rattle.types.specs.AnswerOf.{answer_of_span}
-use Rattle.table_reader.proofs.FillLaws.{body-inside, entries_fit, entries-stored, no-entries}
+use mathlib.Core.Path.{sym}
+use Rattle.table_reader.proofs.FillLaws.{body-inside, entries_fit, entries-stored, has_body}
 use Rattle.table_reader.proofs.fill.fill_table.Goals as goal
+
+pub unwrap-requires : goal.unwrap-requires
+unwrap-requires c =
+    has_body _ _ _ _ _ _ _ c.long_str.result c.long_str.ensures c.requires
 
 pub fill_entries-requires : goal.fill_entries-requires
 fill_entries-requires c =
-    (body-inside _ _ _ _ (sym c.long_str.ensures ∙ ap answer_of_span c.in-Value.is), entries_fit _ _ _ _ _ _ _ (sym c.long_str.ensures ∙ ap answer_of_span c.in-Value.is) _ _ c.requires)
+    let read = sym (rw c.unwrap.ensures at c.long_str.ensures) in
+    (body-inside _ _ _ _ read, entries_fit _ _ _ _ _ _ _ read _ _ c.requires)
 
-pub returns-in-Refused : goal.returns-in-Refused
-returns-in-Refused c =
-    absurd (no-entries _ _ _ _ _ _ _ (sym c.long_str.ensures ∙ ap answer_of_span c.in-Refused.is) c.requires)
-
-pub returns-in-Value : goal.returns-in-Value
-returns-in-Value c =
-    entries-stored _ _ _ _ _ _ _ (sym c.long_str.ensures ∙ ap answer_of_span c.in-Value.is) _ _ _ _ c.fill_entries.ensures
+pub returns : goal.returns
+returns c =
+    let read = sym (rw c.unwrap.ensures at c.long_str.ensures) in
+    entries-stored _ _ _ _ _ _ _ read _ _ _ _ c.fill_entries.ensures

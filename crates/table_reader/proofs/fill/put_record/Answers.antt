@@ -10,4 +10,4 @@ pub returns : goal.returns
 returns c =
     let a = c.args in
     simp towards_suc
-    (splice-sets (a.letter ∷ a.name.start ∷ a.name.len ∷ a.first ∷ a.second ∷ a.beneath ∷ []) a.tape.now (a.k * 6) (omega arith))
+    (splice-sets (a.r.letter ∷ a.r.name.start ∷ a.r.name.len ∷ a.r.payload.first ∷ a.r.payload.second ∷ a.r.beneath ∷ []) a.tape.now (a.k * 6) (omega arith))

@@ -10,7 +10,7 @@ abbrev pub decreases-judge_value : goal.decreases-judge_value
 decreases-judge_value l = 2 * l.levels
 
 abbrev pub invariant-judge_entries-loop-here : goal.invariant-judge_entries-loop-here
-invariant-judge_entries-loop-here l = laws.Kept errata l.levels l.named l.s l.room l.start l.end l.here l.count
+invariant-judge_entries-loop-here l = laws.Kept errata l.levels l.named l.s l.room l.fn.body.start l.end l.here.at l.count
 
 abbrev pub decreases-judge_entries-loop-here : goal.decreases-judge_entries-loop-here
-decreases-judge_entries-loop-here l = l.end - l.here
+decreases-judge_entries-loop-here l = l.end - l.here.at

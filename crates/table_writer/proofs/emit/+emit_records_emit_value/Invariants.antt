@@ -10,7 +10,7 @@ abbrev pub decreases-emit_value : goal.decreases-emit_value
 decreases-emit_value l = l.levels + l.levels
 
 abbrev pub invariant-emit_records-loop-i : goal.invariant-emit_records-loop-i
-invariant-emit_records-loop-i l = Going errata l.named l.pool l.levels l.tape l.first l.end l.initial.out l.at l.out l.here l.i
+invariant-emit_records-loop-i l = Going errata l.named l.source.pool.now l.levels l.source.tape.now l.first l.end l.initial.out l.at l.out l.here l.i
 
 abbrev pub decreases-emit_records-loop-i : goal.decreases-emit_records-loop-i
 decreases-emit_records-loop-i l = l.end - l.i

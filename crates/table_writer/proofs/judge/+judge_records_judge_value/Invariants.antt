@@ -10,7 +10,7 @@ abbrev pub decreases-judge_value : goal.decreases-judge_value
 decreases-judge_value l = 2 * l.levels
 
 abbrev pub invariant-judge_records-loop-i : goal.invariant-judge_records-loop-i
-invariant-judge_records-loop-i l = Kept errata l.levels l.named l.pool l.tape l.end l.first l.i l.size
+invariant-judge_records-loop-i l = Kept errata l.levels l.named l.source.pool.now l.source.tape.now l.end l.first l.i l.size
 
 abbrev pub decreases-judge_records-loop-i : goal.decreases-judge_records-loop-i
 decreases-judge_records-loop-i l = l.end - l.i

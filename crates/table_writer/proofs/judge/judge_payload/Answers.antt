@@ -1,81 +1,72 @@
 -- `table_writer::judge::judge_payload` meets its contract. Assumes nothing.
-use mathlib.Core.Path.{sym, ap, ◌∙◌}
-use mathlib.Core.Logic.{◌⊎◌, inl}
+use mathlib.Core.Path.{ap, ◌∙◌}
+use mathlib.Core.Logic.{◌⊎◌}
 use mathlib.Core.Bool.{Bool, ◌&&◌}
 use mathlib.Core.List.{List}
-use mathlib.Core.Option.{none}
-use Prim.Native.Nat.{ℕ, ◌+◌, ◌^◌}
+use Rattle.std.specs.Prelude.{None}
+use Prim.Native.Nat.{ℕ, ◌^◌}
 use native.Mathlib.Omega.{arith}
 use lib.Dec.{ltb, eqb}
-use borrow.Author.Tests.{lt-ltb, eq-eqb}
+use borrow.Author.Tests.{lt-ltb}
 use Rattle.types.specs.Answer.{Refusal, bad_tape}
 use Rattle.types.specs.Judgement.{test}
-use Rattle.tables.specs.Forest.{words}
+use Rattle.types.specs.Octets.{number_width}
 use Rattle.tables.specs.Writing.{judge_payload}
-use Rattle.tables.specs.AnswerOf.{answer_of_kind}
-use Rattle.tables.specs.declared.Kind.{Kind}
+use Rattle.tables.specs.Letters as kind
+use Rattle.tables.specs.AnswerOf.{payload_words}
+use Rattle.tables.specs.declared.PayloadWords.{PayloadWords}
 use Rattle.table_writer.specs.Sizes.{capped, sized, own_payload}
-use Rattle.table_writer.proofs.KindLaws.{below_one, both-pass}
-use Rattle.table_writer.proofs.SizeLaws.{capped-right, capped_le}
+use Rattle.table_writer.proofs.KindLaws.{below_one, both-pass, width-capped}
+use Rattle.table_writer.proofs.SizeLaws.{octets-missing, string-given}
 use Rattle.table_writer.proofs.judge.judge_payload.Goals as goal
 
 -- the answer for a kind
-abbrev answer : List ℕ → ℕ → ℕ → ℕ → Kind → ℕ ⊎ Refusal
-answer pool i first second k = sized (judge_payload (answer_of_kind k) pool i (words first second)) (capped (own_payload (answer_of_kind k) second))
+abbrev answer : List ℕ → ℕ → PayloadWords → kind.Kind → ℕ ⊎ Refusal
+answer pool i x k = sized (judge_payload k pool i (payload_words x)) (capped (own_payload k x.second))
 
-pub overflow_add-capped_size : goal.overflow_add-capped_size
-overflow_add-capped_size c =
-    omega (arith, c.capped_size.ensures, capped_le c.args.second)
-
-pub returns-then-is_in_pool : goal.returns-then-is_in_pool
-returns-then-is_in_pool c =
+pub returns-in_default : goal.returns-in_default
+returns-in_default c =
     let a = c.args in
-    ap inl (c.capped_size-then-is_in_pool.ensures ∙ ap (λ (n : ℕ). capped (4 + n)) c.capped_size.ensures ∙ capped-right 4 a.second)
-    ∙ sym (ap (λ (b : Bool). sized (test b (bad_tape a.i) none) (capped (4 + a.second))) (sym c.is_in_pool.ensures ∙ c.if-is_in_pool.true))
-    ∙ ap (answer a.pool.now a.i a.first a.second) (sym c.in-LongStr.is)
+    let outside = octets-missing a.pool.now _ (rw c.to_span.ensures at c.in_default.ensures) in
+    rw (← (rw c.in-Some-LongStr.field-0-is at c.in-Some-LongStr.ensures), outside)
 
-pub returns-in-Number8 : goal.returns-in-Number8
-unfolding capped
-returns-in-Number8 c =
-    rw c.in-Number8.is c.judge_number.ensures
-
-pub returns-in-Number16 : goal.returns-in-Number16
-unfolding capped
-returns-in-Number16 c =
-    rw c.in-Number16.is c.judge_number-in-Number16.ensures
-
-pub returns-in-Number32 : goal.returns-in-Number32
-unfolding capped
-returns-in-Number32 c =
-    rw c.in-Number32.is c.judge_number-in-Number32.ensures
-
-pub returns-else-second-ne0 : goal.returns-else-second-ne0
-unfolding capped
-returns-else-second-ne0 c =
+pub returns-in-Some : goal.returns-in-Some
+returns-in-Some c =
     let a = c.args in
-    both-pass (ltb a.first (256 ^ 8)) (eqb a.second 0) (bad_tape a.i) (capped 8) (lt-ltb a.first (256 ^ 8) (omega (arith, c.ranges.first.fits))) (eq-eqb a.second 0 c.if-second-ne0.false)
-    ∙ ap (answer a.pool.now a.i a.first a.second) (sym c.in-Number64.is)
+    let x = a.r.payload in
+    rw (← (rw c.in-Some-LongStr.field-0-is at c.in-Some-LongStr.ensures)) (string-given a.pool.now _ a.i _ x.first x.second (rw c.to_span.ensures at c.in-Some.ensures) c.min.ensures)
 
-pub returns-in-Void : goal.returns-in-Void
-unfolding capped
-returns-in-Void c =
-    rw c.in-Void.is c.judge_number-in-Void.ensures
-
-pub returns-in-Boolean : goal.returns-in-Boolean
-unfolding capped
-returns-in-Boolean c =
-    rw c.in-Boolean.is c.judge_number-in-Boolean.ensures
-
-pub returns-else-second-gt4294967295 : goal.returns-else-second-gt4294967295
-unfolding capped
-returns-else-second-gt4294967295 c =
+pub returns-in-Some-Number : goal.returns-in-Some-Number
+returns-in-Some-Number c =
     let a = c.args in
-    both-pass (ltb a.first 256) (ltb a.second (256 ^ 4)) (bad_tape a.i) (capped 5) (lt-ltb a.first 256 (omega (arith, c.if-first-gt255.false))) (lt-ltb a.second (256 ^ 4) (omega (arith, c.if-second-gt4294967295.false)))
-    ∙ ap (answer a.pool.now a.i a.first a.second) (sym c.in-Decimal.is)
+    let x = a.r.payload in
+    let w = c.in-Some-Number.width in
+    c.judge_number.ensures
+    ∙ ap (λ (n : ℕ). sized (test (ltb x.first n && eqb x.second 0) (bad_tape a.i) None) c.octets.result) c.greatest.ensures
+    ∙ ap (λ (n : ℕ). sized (test (ltb x.first (256 ^ number_width w) && eqb x.second 0) (bad_tape a.i) None) n) (c.octets.ensures ∙ width-capped w)
+    ∙ ap (answer a.pool.now a.i x) (rw c.in-Some-Number.field-0-is at c.in-Some-Number.ensures)
 
-pub returns-in-Container : goal.returns-in-Container
+pub returns-in-Some-Void : goal.returns-in-Some-Void
 unfolding capped
-returns-in-Container c =
+returns-in-Some-Void c =
+    rw (← (rw c.in-Some-Void.field-0-is at c.in-Some-Void.ensures)) c.judge_number-in-Some-Void.ensures
+
+pub returns-in-Some-Boolean : goal.returns-in-Some-Boolean
+unfolding capped
+returns-in-Some-Boolean c =
+    rw (← (rw c.in-Some-Boolean.field-0-is at c.in-Some-Boolean.ensures)) c.judge_number-in-Some-Boolean.ensures
+
+pub returns-else-greatest-x-2 : goal.returns-else-greatest-x-2
+unfolding capped
+returns-else-greatest-x-2 c =
+    let x = c.args.r.payload in
+    both-pass (ltb x.first 256) (ltb x.second (256 ^ 4)) (bad_tape c.args.i) (capped 5) (lt-ltb x.first 256 (omega (arith, c.if-greatest-x.false, c.greatest-in-Some-Decimal.ensures))) (lt-ltb x.second (256 ^ 4) (omega (arith, c.if-greatest-x-2.false, c.greatest-else-greatest-x.ensures)))
+    ∙ ap (answer c.args.pool.now c.args.i x) (rw c.in-Some-Decimal.field-0-is at c.in-Some-Decimal.ensures)
+
+pub returns-in-Some-Container : goal.returns-in-Some-Container
+unfolding capped
+returns-in-Some-Container c =
     let a = c.args in
-    c.judge_number-in-Container.ensures ∙ ap (λ (b : Bool). sized (test (b && eqb a.second 0) (bad_tape a.i) none) 4) (below_one a.first)
-    ∙ ap (answer a.pool.now a.i a.first a.second) (sym c.in-Container.is)
+    let x = a.r.payload in
+    c.judge_number-in-Some-Container.ensures ∙ ap (λ (b : Bool). sized (test (b && eqb x.second 0) (bad_tape a.i) None) 4) (below_one x.first)
+    ∙ ap (answer a.pool.now a.i x) (rw c.in-Some-Container.field-0-is at c.in-Some-Container.ensures)

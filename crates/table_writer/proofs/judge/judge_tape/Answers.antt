@@ -1,21 +1,20 @@
 -- `table_writer::judge::judge_tape` meets its contract. Assumes nothing.
-use mathlib.Core.Path.{sym, ap, ◌∙◌}
+use Rattle.std.proofs.Common.{rules}
 use Rattle.tables.specs.Letters.{errata}
-use Rattle.table_writer.specs.AnswerOf.{answer_of_octets}
 use Rattle.table_writer.proofs.WholeLaws.{tape-refused, tape-left-over, tape-given}
 use Rattle.table_writer.proofs.judge.judge_tape.Goals as goal
 
-pub returns-then-tape-ne0 : goal.returns-then-tape-ne0
-returns-then-tape-ne0 c =
+pub returns-in_err-size : goal.returns-in_err-size
+returns-in_err-size c =
     let a = c.args in
-    tape-left-over errata a.pool.now a.tape.now a.named _ (ap answer_of_octets (sym c.in-Size.is) ∙ c.judge_records.ensures) c.if-tape-ne0.true
+    rw (← tape-refused errata a.source.pool.now a.source.tape.now a.named _ (rw c.records_in-count.ensures at c.in_err-size.ensures)) (search rules)
 
-pub returns-in-Refused : goal.returns-in-Refused
-returns-in-Refused c =
+pub returns-then-source-ne0 : goal.returns-then-source-ne0
+returns-then-source-ne0 c =
     let a = c.args in
-    tape-refused errata a.pool.now a.tape.now a.named _ (ap answer_of_octets (sym c.in-Refused.is) ∙ c.judge_records.ensures)
+    rw c.records_in-count.ensures (tape-left-over errata a.source.pool.now a.source.tape.now a.named _ (rw c.records_in-count.ensures at c.in_ok-size.ensures) c.if-source-ne0.true)
 
-pub returns-else-tape-ne0 : goal.returns-else-tape-ne0
-returns-else-tape-ne0 c =
+pub returns : goal.returns
+returns c =
     let a = c.args in
-    tape-given errata a.pool.now a.tape.now a.named _ (ap answer_of_octets (sym c.in-Size.is) ∙ c.judge_records.ensures) c.if-tape-ne0.false
+    tape-given errata a.source.pool.now a.source.tape.now a.named _ (rw c.records_in-count.ensures at c.in_ok-size.ensures) c.if-source-ne0.false

@@ -1,4 +1,4 @@
-use Rattle.std.proofs.Common.{◌≡◌, ◌+◌, ◌-◌, ◌*◌, ◌^◌, ◌<◌, ◌≤◌, length}
+use Rattle.std.proofs.Common.{◌+◌, ◌*◌}
 use Rattle.text.proofs.table.+container_entries_value_of.Given as goal
 
 abbrev pub decreases-container : goal.decreases-container
@@ -9,9 +9,3 @@ decreases-entries l = 3 * l.levels + 1
 
 abbrev pub decreases-value_of : goal.decreases-value_of
 decreases-value_of l = 3 * l.levels
-
-abbrev pub invariant-entries-loop-k : goal.invariant-entries-loop-k
-invariant-entries-loop-k l = (length l.out ≡ length l.initial.out) × (l.next ≤ length l.initial.out) × (l.end < 2 ^ 64)
-
-abbrev pub decreases-entries-loop-k : goal.decreases-entries-loop-k
-decreases-entries-loop-k l = l.end - l.k

@@ -1,9 +1,7 @@
 -- `types::Cursor::u32` meets its contract. Assumes nothing.
-use mathlib.Core.Path.{sym, ap, ◌∙◌}
-use Rattle.types.specs.AnswerOf.{answer_of_number}
 use Rattle.types.proofs.NumberLaws.{uint_at-lt}
 use Rattle.types.proofs.Cursor.u32.Goals as goal
 
 pub overflow_cast-result : goal.overflow_cast-result
 overflow_cast-result c =
-    record { fits = uint_at-lt 4 _ _ (λ i. (c.type_inv.s i).fits) (ap answer_of_number (sym c.in-Value.is) ∙ c.read_number.ensures) }
+    record { fits = uint_at-lt 4 _ _ (λ i. (c.type_inv.s i).fits) c.in_ok-n.ensures }

@@ -1,7 +1,0 @@
--- The law spares the check to count the octets.
-use Rattle.std.proofs.Common.{ℕ, sym}
-use Rattle.std.proofs.lemmas.List.{length-replicate}
-use Rattle.dissect.proofs.empty_buffer.Goals as goal
-
-pub returns : goal.returns
-returns c = sym (length-replicate {A = ℕ} 2097152 0)
