@@ -3,6 +3,7 @@ use crate::arguments::Argument;
 use method::{ContentHeader, ContentProperties};
 use print::Printer;
 
+// An array, in which a property that is not present is None: nothing is ever added to it.
 fn named_properties(p: ContentProperties) -> [(&'static str, Option<Argument>); 13] {
     [
         ("content-type", p.content_type.map(Argument::Text)),

@@ -64,6 +64,7 @@ pub enum Payload {
 }
 
 impl Payload {
+    // No From, as of `octet`: one equation, under the name of what is asked.
     pub fn frame_type(self) -> FrameType
         ensures { type_octet result ≡ type_of (payload_of self) }
     {

@@ -7,7 +7,7 @@ ghost use Rattle.types.specs.AnswerOf.{answer_with};
 use frame::{FRAME_END, Frame, FrameType};
 use types::{Cursor, Read, WireError};
 
-// Decodes the frame at a position. Always inlined: with a call of its own, the reading step that it begins would cost a tenth more.
+// Decodes the frame at a position. Always inlined, since every reading step begins with it.
 #[inline(always)]
 pub fn decode(s: &[u8], at: Cursor) -> Read<Frame>
     ensures { answer_with frame_of result ≡ decode_at s.now at.at }

@@ -35,8 +35,8 @@ fn fixed_size_of(ids: u32) -> Option<FixedSize>
     }
 }
 
-// The number of four octets at a place where they are. By index: Cursor::u32 and first_chunk would each answer that they may not be
-// there, which the caller has tested, and would be taken apart once more.
+// The number of four octets at a place where they are. By index, in one line: `first_chunk`, which types takes for its three widths, would be
+// unwrapped, and need the law of four octets that is found alone so.
 fn four_octets(s: &[u8], at: usize) -> u32
     requires { at + 4 ≤ length s.now }
     ensures { result ≡ number_at 4 s.now at }

@@ -134,6 +134,7 @@ pub fn walk(s: &[u8], tape: &mut [u64], register: &mut [u64]) -> Walked
         used: 0,
         frames: 0,
     };
+    // No iterator: each step tells how far it moves and fills what is lent, and the first that refuses ends the walk.
     while so_far.at < s.len() {
         match so_far.step(s, tape, register) {
             Err(e) => return so_far.ended(Some(e)),

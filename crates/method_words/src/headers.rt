@@ -20,7 +20,8 @@ impl<'a> PropertyReader<'a> {
     ghost use Rattle.std.specs.Prelude.{◌≡◌, ◌+◌, ◌*◌, ◌%◌, ◌^◌, ◌≤◌, ◌<◌, IfSome};
     ghost use Rattle.method_words.specs.Properties.{is_next, next_of, rest_of, span_in, number_in};
 
-    // Whether the next property is present. The flags behind it move up to its place.
+    // Whether the next property is present. The flags behind it move up to its place, as in method's PresentFields: a function for both
+    // would have to answer two things, and say no less.
     fn next_flag(&mut self) -> bool
         ensures flag { result ≡ is_next self.old }
         ensures rest { self.new ≡ record { words = self.old.words; flags = self.old.flags % 4096 * 2; at = self.old.at } }

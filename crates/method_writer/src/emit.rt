@@ -90,7 +90,8 @@ fn emit_field(
     }
 }
 
-// The fields that are present, from their words.
+// The fields that are present, from their words. What is left of these is cut here: an iterator that gave a field with its words would
+// save a line of it, and need a law of the widths of all fields before.
 pub(crate) fn emit_fields(
     out: &mut [u8],
     from: usize,

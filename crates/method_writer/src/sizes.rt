@@ -104,7 +104,7 @@ fn size_field(field: Field, words: &[u64], pool: &[u8], tape: &[u64]) -> Result<
     }
 }
 
-// The fields that are present, from their words. A length that is too great is refused behind all else.
+// The fields that are present, from their words, which are cut as in emit.rt. A length that is too great is refused behind all else.
 pub(crate) fn size_fields(
     fields: PresentFields,
     words: &[u64],

@@ -11,11 +11,7 @@ use types::Span;
 
 // A string is two words: where it starts, and how long it is.
 fn and_string(printer: &mut Printer, separator: u8, start: u64, len: u64, s: &[u8]) {
-    let span = Span {
-        start: start as usize,
-        len: len as usize,
-    };
-    and_span(printer, separator, s, span);
+    and_span(printer, separator, s, Span::from_words([start, len]));
 }
 
 // The arguments of a field, each behind `separator`; they are the first of the words.
@@ -47,7 +43,7 @@ fn and_two(printer: &mut Printer, words: &Words) {
     and_number(printer, b' ', words[2]);
 }
 
-// The arguments of a layout, behind class and method.
+// The arguments of a layout, behind class and method. An iterator that gave a field with its words would save a line of this loop alone.
 fn and_fields(printer: &mut Printer, layout: &[Field], words: &Words, s: &[u8]) {
     let mut rest = &words[3..];
     for field in layout {

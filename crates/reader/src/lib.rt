@@ -68,7 +68,7 @@ impl<'a> Reader<'a> {
         self.advance(self.at().short_str(self.buf))
     }
 
-    // Reads a table onto the records of the tape behind the used ones: how many it has filled.
+    // Reads a table onto the records of the tape behind the used ones, which are lent apart as in table_reader: how many it has filled.
     pub fn field_table(&mut self, tape: &mut [u64], used: usize) -> Result<usize, WireError>
         ensures { taken (or_refusal count_alone result) (self.new, tape.new) ≡ reading_onto (read_table errata self.old.buf.now self.old.pos used tape.old) self.old }
     {

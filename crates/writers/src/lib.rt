@@ -29,7 +29,8 @@ fn put_array<const N: usize>(out: &mut [u8], at: usize, octets: [u8; N])
     out[at..at + N].copy_from_slice(&octets);
 }
 
-// Puts the low octets of n, as many as the width has, where they all have space.
+// Puts the low octets of n, as many as the width has, where they all have space. Each width is cut where it is put: what cuts words
+// elsewhere (method_words) stands above this crate.
 #[tactic(auto, using(crate::proofs::WriterLaws::octets_2, crate::proofs::WriterLaws::octets_4, crate::proofs::WriterLaws::octets_8))]
 fn put_number(out: &mut [u8], at: usize, width: Number, n: u64)
     requires { at + number_width width ≤ length out.old }
@@ -59,7 +60,8 @@ fn put_each(out: &mut [u8], at: usize, s: &[u8])
 
 // Moves k octets by way of a part. It overlaps neither slice, so the compiler makes one move of the two loops, in registers or by
 // memmove, and the part goes; of one loop from slice to slice it makes no memmove, since the two might overlap. The library's
-// copy_from_slice in place of both was tried: to write 8 octets took 69 instructions in place of 58.
+// copy_from_slice in place of both was tried: to write 8 octets took 69 instructions in place of 58. `zip` of the two cut to k octets would
+// say no less than the places do; in put_each it took 8 to 19 more.
 fn put_part(out: &mut [u8], to: usize, s: &[u8], from: usize, k: usize)
     requires { (k ≤ 2048) × (from + k ≤ length s.now) × (to + k ≤ length out.old) }
     ensures { out.new ≡ splice to (take k (drop from s.now)) out.old }
