@@ -40,6 +40,11 @@ field_of code.Login = arg login
 field_of code.Table = arg table
 field_of (code.Fixed x) = fixed (fixed_octets x)
 
+-- the octets of a fixed field; an argument has none
+abbrev pub fixed_part : Field → List ℕ
+fixed_part (fixed xs) = xs
+fixed_part (arg k) = []
+
 -- the fields of a layout, if it is that of a command
 abbrev pub layout_fields : Option (Bor (List CodeField)) → Option (List Field)
 layout_fields (Some l) = Some (map field_of l.now)

@@ -109,7 +109,7 @@ fn read_field(field: Field, s: &[u8], at: Cursor, room: usize, words: &mut [u64]
         Field::Bits(arguments) => without_records(store_bits(s, at, arguments, words)),
         Field::Login => without_records(store_login(s, at, words)),
         Field::Table => store_table(s, at, room, words),
-        Field::Fixed(fixed) => without_records(read_fixed(s, at, fixed)),
+        Field::Fixed(_) => without_records(read_fixed(s, at, field)),
     }
 }
 

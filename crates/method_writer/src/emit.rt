@@ -14,6 +14,7 @@ ghost use Rattle.method_writer.specs.Sizes.{field_size, fields_size, octets_of, 
 ghost use Rattle.method_writer.specs.Emitting.{Ready};
 
 use crate::spans::span_of;
+use method::fixed::write_fixed;
 use method::layout::{Bits, Field, width_of};
 use method::present::PresentFields;
 use table_writer::write_field_table;
@@ -86,7 +87,7 @@ fn emit_field(
         Field::Bits(bits) => emit_bits(out, at, bits, words[0]),
         Field::Login => emit_login(out, at, words, pool),
         Field::Table => write_field_table(out, at, pool, tape).unwrap(),
-        Field::Fixed(fixed) => write_octets(out, at, fixed.octets()).unwrap(),
+        Field::Fixed(_) => write_fixed(out, at, field).unwrap(),
     }
 }
 

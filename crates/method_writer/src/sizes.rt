@@ -16,6 +16,7 @@ ghost use Rattle.method_writer.specs.Sizes.{both, count, field_size, octets_of_a
 ghost use Rattle.method_writer.specs.AnswerOf.{size_of, answer_of_size};
 
 use crate::spans::span_of;
+use method::fixed::fixed_len;
 use method::layout::{Field, width_of};
 use method::present::PresentFields;
 use table_writer::judge_field_table;
@@ -100,7 +101,7 @@ fn size_field(field: Field, words: &[u64], pool: &[u8], tape: &[u64]) -> Result<
             let len = judge_field_table(pool, tape)?;
             Ok(counted(len))
         }
-        Field::Fixed(fixed) => Ok(Some(fixed.octets().len())),
+        Field::Fixed(_) => Ok(Some(fixed_len(field))),
     }
 }
 

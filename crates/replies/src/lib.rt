@@ -71,6 +71,7 @@ pub fn queue_declare_ok_name(s: &[u8], at: Cursor) -> Read<Span>
 pub fn basic_consume_ok_tag(s: &[u8], at: Cursor) -> Read<Span>
     ensures { answer_of result ≡ basic_consume_ok_tag_at s.now at.at }
 {
+    // Nothing stands behind the tag, and nothing is looked at there.
     after_ids(s, at)?.short_str(s)
 }
 
@@ -84,6 +85,7 @@ pub fn queue_op_ok_message_count(s: &[u8], at: Cursor) -> Read<u32>
 pub fn basic_get_ok_delivery_tag(s: &[u8], at: Cursor) -> Read<u64>
     ensures { answer_of result ≡ basic_get_ok_delivery_tag_at s.now at.at }
 {
+    // The redelivered bit and what is behind it need not be there.
     after_ids(s, at)?.u64(s)
 }
 

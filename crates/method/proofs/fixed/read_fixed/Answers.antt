@@ -10,7 +10,7 @@ use Rattle.method.proofs.fixed.read_fixed.Goals as goal
 
 pub returns-in_err-next : goal.returns-in_err-next
 unfolding fixed_at
-returns-in_err-next c = rw (← c.octets-octets.ensures, ← c.in_err-next.ensures) (search rules)
+returns-in_err-next c = rw (← c.octets_of-octets.ensures, ← c.in_err-next.ensures) (search rules)
 
 pub slice_bounds-eq-count : goal.slice_bounds-eq-count
 slice_bounds-eq-count c =
@@ -26,8 +26,8 @@ slice_bounds-eq-end c =
 
 pub returns-then-eq : goal.returns-then-eq
 returns-then-eq c =
-    rw (← c.octets-octets.ensures) (fixed-checked _ _ _ _ _ true c.in_ok-next.ensures (sym c.if-eq.true ∙ c.eq.ensures ∙ same_is _ _))
+    rw (← c.octets_of-octets.ensures) (fixed-checked _ _ _ _ _ true c.in_ok-next.ensures (sym c.if-eq.true ∙ c.eq.ensures ∙ same_is _ _))
 
 pub returns : goal.returns
 returns c =
-    rw (← c.octets-octets.ensures) (fixed-checked _ _ _ _ _ false c.in_ok-next.ensures (sym c.if-eq.false ∙ c.eq.ensures ∙ same_is _ _))
+    rw (← c.octets_of-octets.ensures) (fixed-checked _ _ _ _ _ false c.in_ok-next.ensures (sym c.if-eq.false ∙ c.eq.ensures ∙ same_is _ _))

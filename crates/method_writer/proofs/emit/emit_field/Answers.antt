@@ -16,7 +16,7 @@ unwrap-requires-in-Table c =
 pub unwrap-requires-in-Fixed : goal.unwrap-requires-in-Fixed
 unwrap-requires-in-Fixed c =
     let a = c.args in
-    fixed-ok errata a.pool.now a.tape.now a.words.now a.at a.out.now c.write_octets.result _ (rw c.in-Fixed.is at c.requires.1) (rw c.octets.ensures at c.write_octets.ensures)
+    fixed-ok errata a.pool.now a.tape.now a.words.now a.at a.out.now c.write_fixed.result _ (rw c.in-Fixed.is at c.requires.1) (rw c.in-Fixed.is at c.write_fixed.ensures)
 
 pub returns-in-Number : goal.returns-in-Number
 returns-in-Number c =
@@ -32,4 +32,4 @@ returns-in-Table c =
 pub returns-in-Fixed : goal.returns-in-Fixed
 returns-in-Fixed c =
     let a = c.args in
-    rw c.in-Fixed.is (fixed-written errata a.pool.now a.tape.now a.words.now a.at a.out.now c.write_octets.result _ (rw c.in-Fixed.is at c.requires.1) (rw c.octets.ensures at c.write_octets.ensures) c.unwrap-in-Fixed.ensures)
+    rw c.in-Fixed.is (fixed-written errata a.pool.now a.tape.now a.words.now a.at a.out.now c.write_fixed.result _ (rw c.in-Fixed.is at c.requires.1) (rw c.in-Fixed.is at c.write_fixed.ensures) c.unwrap-in-Fixed.ensures)
