@@ -5,7 +5,7 @@ use Rattle.std.specs.Prelude.{Option, None, Some}
 use Rattle.std.specs.Option.{MatchOption, IfSome, IsSomeAnd}
 use Rattle.std.proofs.lemmas.Option.{MatchOption-at_some, MatchOption-at_none}
 use mathlib.Core.List.{List, [], ◌∷◌}
-use Prim.Native.Nat.{ℕ, suc, ◌+◌, ◌*◌, ◌/◌, ◌^◌, ◌%◌, ◌<◌}
+use Prim.Native.Nat.{ℕ, suc, ◌+◌, ◌*◌, ◌/◌, ◌^◌, ◌%◌, ◌≤◌, ◌<◌}
 use native.Mathlib.Omega.{arith}
 use native.Mathlib.Nat.{mod-eq_of_lt, mod-lt, two-pow-succ}
 use Rattle.std.proofs.Math.Nat.{add-mul, mul_assoc, mul-le-mul_right, mul-lt-mul_of_pos_right}
@@ -47,6 +47,13 @@ next-kept rest o = go (is_next rest)
         → o ≡ cond b (Some (number_in (drop rest.at rest.words.now) % 256 ^ 8)) None
     go true h e = e ∙ ap Some (sym (mod-eq_of_lt (MatchOption-at_some _ _ _ e h)))
     go false h e = e
+
+-- what is left behind it begins behind its words, if not where it does itself
+pub rest-place : (r rest : PropertyReader) (width m : ℕ) → r ≡ rest_of width rest → rest.at ≤ m → r.at ≤ m + width
+rest-place r rest width m e h = rw e (decide (leb 4096 rest.flags) (λ b. rw b (omega arith)) (λ b. rw b (omega arith)))
+
+pub rest-step : (r rest : PropertyReader) (width : ℕ) → r ≡ rest_of width rest → r.at ≤ rest.at + width
+rest-step r rest width e = rest-place r rest width rest.at e (omega arith)
 
 -- All of some properties, by their flags
 

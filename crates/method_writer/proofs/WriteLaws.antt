@@ -8,7 +8,7 @@ use Rattle.std.proofs.Common.{Bor}
 use mathlib.Core.List.{List, [], ◌∷◌, ◌++◌, map, append_assoc}
 use Prim.Native.Nat.{ℕ, ◌+◌, ◌*◌, ◌≤◌, ◌<◌}
 use native.Mathlib.Omega.{arith}
-use lib.ListN.{length, drop, length-append}
+use lib.ListN.{length, drop, length-append, length-map}
 use Rattle.types.specs.Answer as answer
 use Rattle.types.specs.Answer.{Refusal, given, no_space}
 use Rattle.types.specs.declared.WireError.{WireError}
@@ -40,7 +40,7 @@ use Rattle.method.specs.Layout.{field_of, layout_fields}
 use Rattle.method.specs.declared.layout.Field.{Field as CodeField}
 use Rattle.method.specs.Present.{present_fields}
 use Rattle.method.specs.declared.present.PresentFields.{PresentFields}
-use Rattle.method.proofs.LayoutLaws.{command-widths, layout-known, all-present, property-widths}
+use Rattle.method.proofs.LayoutLaws.{command-widths, layout-known, layout-length, all-present, property-widths}
 use Rattle.method.proofs.MethodLaws.{flags-number, flags-length}
 use Rattle.method_writer.specs.Sizes.{Size, octets, long, refused, both, args_meaning, field_size, fields_size, octets_of_all}
 use Rattle.method_writer.specs.Emitting.{Ready}
@@ -170,6 +170,13 @@ command-fields layout c m laid e = e ∙ all-present layout c m (layout-known la
 pub command-asked : (call : Call) {fs : List Field} → fs ≡ fields_of call.class call.method → length call.words ≡ 8 → widths fs ≤ length call.words
 command-asked call {fs} e ws = let room : widths fs ≤ 8 = rw e (command-widths call.class call.method) in omega arith
 
+-- with what a row is besides: no longer than thirteen flags
+pub command-row-asked : (call : Call) (layout : List CodeField) → map field_of layout ≡ fields_of call.class call.method → length call.words ≡ 8
+    → (8191 < 8192) × (length layout ≤ 13) × (widths (select (flags_of 13 8191) (map field_of layout)) ≤ length call.words)
+command-row-asked call layout e ws =
+    let few : length layout ≤ 8 = layout-length layout call.class call.method e in
+    (omega arith, omega arith, command-asked call (all-present layout call.class call.method e) ws)
+
 abbrev pub command_head : Call → List ℕ
 command_head call = number.octets 2 call.class ++ number.octets 2 call.method
 
@@ -217,6 +224,12 @@ header_fields h = select (flags_of 13 h.present) properties
 
 pub header-asked : (h : HeaderWords) {fs : List Field} → fs ≡ header_fields h → length h.words ≡ 22 → widths fs ≤ length h.words
 header-asked h {fs} e w = let room : widths fs ≤ 22 = rw e (property-widths (flags_of 13 h.present)) in omega arith
+
+pub header-row-asked : (x : ContentHeader) (h : HeaderWords) (layout : List CodeField) → h ≡ header_words (header_of x) → map field_of layout ≡ properties
+    → length h.words ≡ 22 → (h.present < 8192) × (length layout ≤ 13) × (widths (select (flags_of 13 h.present) (map field_of layout)) ≤ length h.words)
+header-row-asked x h layout is e w =
+    let thirteen : length properties ≡ 13 = unfold properties in refl in
+    ((header-back x h is).0, omega (arith, ap length e, length-map layout field_of, thirteen), header-asked h (ap (select (flags_of 13 h.present)) e) w)
 
 abbrev pub header_head : HeaderWords → List ℕ
 header_head h = ((number.octets 2 h.class ++ number.octets 2 0) ++ number.octets 8 h.body_size) ++ number.octets 2 (h.present * 8)

@@ -28,5 +28,4 @@ returns-in-Table c =
 
 pub returns-in-Fixed : goal.returns-in-Fixed
 returns-in-Fixed c =
-    let xs = fixed_octets c.in-Fixed.fixed in
-    rw (c.in-Fixed.is, c.without_records-in-Fixed.ensures) (plain-stored (fixed xs) tt _ _ _ _ _ _ (stored-fixed xs _ _ 0 _ _ (rw c.in-Fixed.is at c.read_fixed.ensures)))
+    rw (c.in-Fixed.is, c.without_records-in-Fixed.ensures) (plain-stored (fixed (fixed_octets _)) tt _ _ _ _ _ _ (stored-fixed (fixed_octets _) _ _ 0 _ _ (rw c.in-Fixed.is at c.read_fixed.ensures)))
