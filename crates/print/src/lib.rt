@@ -25,12 +25,20 @@ fn write(rt: HostRuntime, s: &[u8]) {
 
 impl<'a> Printer<'a> {
     ghost use Rattle.print.specs.Printing.{FitsBuffer, pending_of};
-    ghost use Rattle.std.specs.Prelude.{◌≡◌, []};
+    ghost use Rattle.std.specs.Prelude.{◌≡◌, [], take};
 
     pub fn new(rt: HostRuntime, out: &'a mut [u8]) -> Printer<'a>
         ensures { pending_of result ≡ [] }
     {
         Printer { rt, out, at: 0 }
+    }
+
+    // Of a buffer that has something already: its first n octets are not yet written, or all that it has.
+    pub fn with_pending(rt: HostRuntime, out: &'a mut [u8], n: usize) -> Printer<'a>
+        ensures { pending_of result ≡ take n out.old }
+    {
+        let at = n.min(out.len());
+        Printer { rt, out, at }
     }
 
     // What is not yet written.
