@@ -44,11 +44,10 @@ pub fn summary(printer: &mut Printer, frames: u64, octets: u64, ending: Ending)
 {
     write!(printer, "end: {frames} frames, {octets} octets");
     match ending {
-        Ending::Whole => {}
-        Ending::Stopped { base } => write!(printer, ", stopped at {base}"),
+        Ending::Whole => printer.put(b'\n'),
+        Ending::Stopped { base } => writeln!(printer, ", stopped at {base}"),
         Ending::Truncated { base, held } => {
-            write!(printer, ", Truncated at {base}: {held} octets of a frame")
+            writeln!(printer, ", Truncated at {base}: {held} octets of a frame");
         }
     }
-    printer.put(b'\n');
 }

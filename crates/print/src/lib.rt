@@ -17,6 +17,11 @@ pub struct Printer<'a> {
     ghost inside: { at ≤ length out.now },
 }
 
+static DIGITS: [u8; 16] = *b"0123456789abcdef";
+
+// Kept out of the functions that print, since few of their calls come to it: they are shorter and faster without it.
+#[cold]
+#[inline(never)]
 fn write(rt: HostRuntime, s: &[u8]) {
     if rt.write_all(s).is_err() {
         let _ = eprintln!(rt; "output failed");
@@ -62,16 +67,16 @@ impl<'a> Printer<'a> {
         self.at = 0;
     }
 
+    // No text is parted by a write: what does not fit behind the rest is written after it.
     pub fn text(&mut self, s: &[u8])
         ensures { FitsBuffer self.new }
     {
         if self.out.len() - self.at < s.len() {
             self.flush();
-        }
-        if self.out.len() - self.at < s.len() {
-            // It is longer than the whole buffer, which has been written.
-            write(self.rt, s);
-            return;
+            if self.out.len() - self.at < s.len() {
+                // It is longer than the whole buffer, which has been written.
+                return write(self.rt, s);
+            }
         }
         let end = self.at + s.len();
         self.out[self.at..end].copy_from_slice(s);
@@ -84,12 +89,26 @@ impl<'a> Printer<'a> {
         self.text(&[b]);
     }
 
-    // Two digits an octet.
+    // Without leading zeros: what `{:x}` gives, in fewer steps.
+    pub fn hex(&mut self, n: u64)
+        ensures { FitsBuffer self.new }
+    {
+        let mut digits = [0u8; 16];
+        let zeros = (n | 1).leading_zeros() as usize / 4;
+        for (i, digit) in digits.iter_mut().enumerate().skip(zeros) {
+            *digit = DIGITS[(n >> (60 - 4 * i)) as usize % 16];
+        }
+        self.text(&digits[zeros..]);
+    }
+
+    // Two digits an octet. Below 0x10 `{:02x}` would give them one by one, and a write could part them.
     pub fn octets(&mut self, s: &[u8])
         ensures { FitsBuffer self.new }
     {
         for b in s {
-            write!(self, "{b:02x}");
+            let high = DIGITS[(*b / 16) as usize];
+            let low = DIGITS[(*b % 16) as usize];
+            self.text(&[high, low]);
         }
     }
 

@@ -5,7 +5,6 @@ ghost use Rattle.std.specs.Iterator.{at_most};
 ghost use Rattle.std.specs.Prelude.{◌≡◌, ◌<◌, ◌≤◌, ◌-◌, ◌^◌, false};
 
 use print::Printer;
-use std::fmt;
 use std::num::{f32_to_bits_with_nan, f64_to_bits_with_nan};
 
 // Numbers below 1 are in units of 2^-120.
@@ -38,6 +37,7 @@ impl Digits {
 }
 
 impl Iterator for Digits {
+    // As ASCII.
     type Item = u8;
 
     // Half the way grows until it is more than the rest.
@@ -52,7 +52,7 @@ impl Iterator for Digits {
             rest: tenths % ONE,
             half_way: self.half_way * 10,
         };
-        let digit = (tenths / ONE) as u8;
+        let digit = b'0' + (tenths / ONE) as u8;
         Some(if self.is_near_enough() {
             digit + self.rounded()
         } else {
@@ -92,19 +92,25 @@ struct Fields {
     fraction: u64,
 }
 
-fn with_point<W: fmt::Write>(
-    f: &mut fmt::Formatter<W>,
-    integer: u64,
-    digits: Digits,
-) -> fmt::Result {
+// The digits behind the point are one text. There is room: half the way is 2^8 units at the least, and more than 1 behind 34 digits.
+fn with_point(printer: &mut Printer, integer: u64, digits: Digits) {
     if digits.is_near_enough() {
-        return write!(f, "{}", integer.wrapping_add(digits.rounded() as u64));
+        return write!(printer, "{}", integer.wrapping_add(digits.rounded() as u64));
     }
-    write!(f, "{integer}.")?;
+    let mut text = [0u8; 64];
+    let mut count = 0;
     for digit in digits {
-        write!(f, "{digit}")?;
+        if let Some(place) = text.get_mut(count) {
+            *place = digit;
+            count += 1;
+        }
     }
-    Ok(())
+    write!(printer, "{integer}.");
+    printer.text(&text[..count]);
+}
+
+fn power(printer: &mut Printer, mantissa: u64, sign: &str, exponent: u64) {
+    write!(printer, "{mantissa} * 2^{sign}{exponent}");
 }
 
 // mantissa * 2^-places. Half the way to the next float is half a unit of the mantissa; below a power of two it is half as far.
@@ -129,46 +135,43 @@ impl Fields {
         }
     }
 
-    fn finite<W: fmt::Write>(
-        self,
-        f: &mut fmt::Formatter<W>,
-        mantissa: u64,
-        scale: u64,
-    ) -> fmt::Result {
+    fn finite(self, printer: &mut Printer, mantissa: u64, scale: u64) {
         let Format { offset, .. } = self.format;
         if offset <= scale {
             let up = scale - offset;
             if up <= 10 {
-                return write!(f, "{}", mantissa << up);
+                return write!(printer, "{}", mantissa << up);
             }
-            return write!(f, "{mantissa} * 2^{up}");
+            return power(printer, mantissa, "", up);
         }
         let places = offset - scale;
         if 110 < places {
-            return write!(f, "{mantissa} * 2^-{places}");
+            return power(printer, mantissa, "-", places);
         }
         let places = places as u32;
         let integer = mantissa.checked_shr(places).unwrap_or(0);
-        with_point(f, integer, digits_of(mantissa, places, self.fraction == 0))
+        with_point(
+            printer,
+            integer,
+            digits_of(mantissa, places, self.fraction == 0),
+        );
     }
-}
 
-impl fmt::Display for Fields {
-    fn fmt<W: fmt::Write>(&self, f: &mut fmt::Formatter<W>) -> fmt::Result {
+    fn show(self, printer: &mut Printer) {
         if self.negative {
-            f.write_str("-")?;
+            printer.put(b'-');
         }
         if self.exponent == self.format.infinity {
-            return f.write_str("inf");
+            return printer.text(b"inf");
         }
         if self.exponent != 0 {
             let mantissa = self.fraction.wrapping_add(self.format.unstored);
-            return self.finite(f, mantissa, self.exponent);
+            return self.finite(printer, mantissa, self.exponent);
         }
         if self.fraction == 0 {
-            return f.write_str("0");
+            return printer.put(b'0');
         }
-        self.finite(f, self.fraction, 1)
+        self.finite(printer, self.fraction, 1);
     }
 }
 
@@ -176,12 +179,20 @@ pub fn float32(printer: &mut Printer, x: f32)
     ensures { FitsBuffer printer.new }
 {
     let bits = f32_to_bits_with_nan(x) as u64;
-    write!(printer, "{}", Fields::of(BINARY32, bits));
+    Fields::of(BINARY32, bits).show(printer);
 }
 
 pub fn float64(printer: &mut Printer, x: f64)
     ensures { FitsBuffer printer.new }
 {
     let bits = f64_to_bits_with_nan(x);
-    write!(printer, "{}", Fields::of(BINARY64, bits));
+    Fields::of(BINARY64, bits).show(printer);
+}
+
+// A NaN is its bits.
+pub fn nan(printer: &mut Printer, bits: u64)
+    ensures { FitsBuffer printer.new }
+{
+    printer.text(b"NaN 0x");
+    printer.hex(bits);
 }

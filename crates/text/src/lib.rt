@@ -3,5 +3,6 @@
 
 pub mod float;
 pub mod moment;
+pub mod number;
 pub mod string;
 pub mod table;

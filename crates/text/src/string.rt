@@ -26,18 +26,24 @@ fn is_plain(s: &[u8], i: usize, utf8: bool) -> bool
     }
 }
 
+// Plain octets that stand together are one text, so that no write parts them.
 pub fn quoted(printer: &mut Printer, s: &[u8])
     ensures { FitsBuffer printer.new }
 {
     let utf8 = utf8::scan_utf8(s).is_ok();
     printer.put(b'"');
-    for (i, b) in s.iter().enumerate() {
-        if is_plain(s, i, utf8) {
-            printer.put(*b);
-        } else {
-            write!(printer, "\\x{:02x}", *b);
+    let mut from = 0;
+    for i in 0..s.len() {
+        if !is_plain(s, i, utf8) {
+            if from < i {
+                printer.text(&s[from..i]);
+            }
+            from = i + 1;
+            printer.text(b"\\x");
+            printer.octets(&s[i..from]);
         }
     }
+    printer.text(&s[from..]);
     printer.put(b'"');
 }
 

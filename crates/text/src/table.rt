@@ -3,6 +3,7 @@ ghost use Rattle.print.specs.Printing.{FitsBuffer};
 ghost use Rattle.std.specs.Iterator.{at_most};
 ghost use Rattle.std.specs.Prelude.{length};
 
+use crate::number::{HALF8, HALF16, HALF32, HALF64, scaled, signed};
 use crate::{float, moment, string};
 use print::Printer;
 use tables::tape::{RECORD_WORDS, record_at};
@@ -12,19 +13,18 @@ use values::FieldValue;
 fn leaf(printer: &mut Printer, s: &[u8], v: FieldValue) {
     match v {
         FieldValue::Bool(b) => write!(printer, "{b}"),
-        FieldValue::I8(n) => write!(printer, "{n}"),
+        FieldValue::I8(z) => signed(printer, z.cast_unsigned() as u64, HALF8),
         FieldValue::U8(n) => write!(printer, "{n}"),
-        FieldValue::I16(n) => write!(printer, "{n}"),
+        FieldValue::I16(z) => signed(printer, z.cast_unsigned() as u64, HALF16),
         FieldValue::U16(n) => write!(printer, "{n}"),
-        FieldValue::I32(n) => write!(printer, "{n}"),
+        FieldValue::I32(z) => signed(printer, z.cast_unsigned() as u64, HALF32),
         FieldValue::U32(n) => write!(printer, "{n}"),
-        FieldValue::I64(n) => write!(printer, "{n}"),
+        FieldValue::I64(z) => signed(printer, z.cast_unsigned(), HALF64),
         FieldValue::F32(x) => float::float32(printer, x),
-        FieldValue::F32Nan(bits) => write!(printer, "NaN 0x{bits:x}"),
+        FieldValue::F32Nan(bits) => float::nan(printer, bits as u64),
         FieldValue::F64(x) => float::float64(printer, x),
-        FieldValue::F64Nan(bits) => write!(printer, "NaN 0x{bits:x}"),
-        // Exactly: its number, and the power of ten that its scale is.
-        FieldValue::Decimal { scale, value } => write!(printer, "{value}e-{scale}"),
+        FieldValue::F64Nan(bits) => float::nan(printer, bits),
+        FieldValue::Decimal { scale, value } => scaled(printer, scale, value),
         FieldValue::LongStr(v) => string::quoted_span(printer, s, v),
         FieldValue::Bytes(v) => string::octets_span(printer, s, v),
         FieldValue::Timestamp(n) => moment::timestamp(printer, n),

@@ -28,6 +28,21 @@ cycles (suc c) =
     let one : 400 * suc c ≡ 400 + 400 * c = omega arith in
     ap days_before_year one ∙ omega (arith, cycle (400 * c), cycles c)
 
+-- the days before a year that lies k years behind so many times 400
+pub behind-cycles : (c k : ℕ) → days_before_year (400 * c + k) ≡ 146097 * c + days_before_year k
+behind-cycles zero k =
+    let none : 400 * zero + k ≡ k = omega arith in omega (arith, ap days_before_year none)
+behind-cycles (suc c) k =
+    let one : 400 * suc c + k ≡ 400 + (400 * c + k) = omega arith in
+    ap days_before_year one ∙ omega (arith, cycle (400 * c + k), behind-cycles c k)
+
+pub again-cycles : (c y : ℕ) → days_of_year (400 * c + y) ≡ days_of_year y
+again-cycles zero y =
+    let none : 400 * zero + y ≡ y = omega arith in ap days_of_year none
+again-cycles (suc c) y =
+    let one : 400 * suc c + y ≡ 400 + (400 * c + y) = omega arith in
+    ap days_of_year one ∙ omega (arith, again (400 * c + y), again-cycles c y)
+
 pub year-step : (y : ℕ) → 1970 ≤ y → days_before_year (suc (y - 1970)) ≡ days_before_year (y - 1970) + days_of_year y
 unfolding days_before_year
 year-step y h =

@@ -36,10 +36,14 @@ struct MonthDay {
 fn leap_year(year: u64) -> bool
     ensures { result ≡ leap_year year }
 {
+    // Three years of four are told without a division.
+    if year % 4 != 0 {
+        return false;
+    }
     if year % 100 == 0 {
         year % 400 == 0
     } else {
-        year % 4 == 0
+        true
     }
 }
 
@@ -61,17 +65,20 @@ fn days_of_month(year: u64, month: u8) -> u64
     }
 }
 
-// The day that comes so many days after 1970-01-01. Any 400 years have 146,097 days and are passed over at once, so that the day is of
-// one of the 400 years from `first` on, whatever the number.
+// The day that comes so many days after 1970-01-01. Any 400 years have 146,097 days, and the next 400 the same leap years: they are passed
+// over at once, and the year is looked for among the first 400, whatever the number.
 fn year_day(days: u64) -> YearDay
     ensures { YearOf result days }
 {
-    let first = 1970 + 400 * (days / 146_097);
+    let passed = 400 * (days / 146_097);
     let mut left = days % 146_097;
-    for year in first..first + 400 {
+    for year in 1970..2370 {
         let n = days_of_year(year);
         if left < n {
-            return YearDay { year, before: left };
+            return YearDay {
+                year: passed + year,
+                before: left,
+            };
         }
         left -= n;
     }
