@@ -48,27 +48,33 @@ fn octet(high: u8, low: u8) -> Option<u8> {
     Some(digit(high)? * 16 + digit(low)?)
 }
 
-// The octets of pairs of digits.
+// The octets of pairs of digits. Room is made for all of them first: with a push of each, long lines took twice as long.
 fn digits(word: &[u8], pool: &mut Vec<u8>) -> Option<()> {
-    for pair in word.chunks(2) {
+    let start = pool.len();
+    let count = word.len() / 2;
+    if word.len() % 2 != 0 || pool.capacity() - start < count {
+        return None;
+    }
+    pool.resize(start + count, 0).ok()?;
+    for (b, pair) in pool[start..].iter_mut().zip(word.chunks_exact(2)) {
         let [high, low] = pair else {
             return None;
         };
-        push(pool, octet(*high, *low)?)?;
+        *b = octet(*high, *low)?;
     }
     Some(())
 }
 
-// The last octet that the pool holds so many times, counting the one that is there.
+// The last octet that the pool holds so many times, counting the one that is there. The room behind that one must be for so many: an octet
+// of the pool stays free.
 fn repeat(pool: &mut Vec<u8>, times: u64) -> Option<()> {
-    if times == 0 {
+    let b = pool.last().copied()?;
+    let room = pool.capacity() - pool.len();
+    if times == 0 || (room as u64) < times {
         return None;
     }
-    let b = pool.last().copied()?;
-    for _ in 1..times {
-        push(pool, b)?;
-    }
-    Some(())
+    let behind = times as usize - 1;
+    pool.resize(pool.len() + behind, b).ok()
 }
 
 // One or more octets.
