@@ -112,14 +112,15 @@ static DIGITS: [u8; 16] = *b"0123456789abcdef";
 fn hex(printer: &mut Printer, n: u64)
     ensures { FitsBuffer printer.new }
 {
-    let first = ((n | 1).leading_zeros() / 4) as usize;
     let mut digits = [0u8; 16];
     let mut rest = n;
-    for digit in digits[first..].iter_mut().rev() {
-        *digit = DIGITS[(rest % 16) as usize];
+    for i in (0..digits.len()).rev() {
+        digits[i] = DIGITS[(rest % 16) as usize];
         rest /= 16;
+        if rest == 0 {
+            return printer.text(&digits[i..]);
+        }
     }
-    printer.text(&digits[first..]);
 }
 
 // A number behind `separator`.

@@ -80,8 +80,7 @@ impl<'a> Case<'a> {
 // What a line says, taken into its parts. None for a line that is no case.
 pub fn case_of<'a>(text: &[u8], parts: &'a mut Parts) -> Option<Case<'a>> {
     parts.clear();
-    let (front, records) = line::split_at_slash(text)?;
-    let front = line::front_of(front, &mut parts.pool, &mut parts.fields)?;
+    let (front, records) = line::front_of(text, &mut parts.pool, &mut parts.fields)?;
     if let Some(records) = records {
         parts.take_records(records)?;
     }
