@@ -51,8 +51,8 @@ fn octet_of(pair: &[u8]) -> Option<u8> {
     Some(digit(*high)? * 16 + digit(*low)?)
 }
 
-// The octets of the pairs of digits with which a word begins, while there is room for them: what stands behind those. Room is made first:
-// with a push of each, long lines took 1.5 times as long.
+// The octets of the pairs of digits with which a word begins, while there is room for them: what stands behind those. Room is made first; a
+// push of each takes longer.
 fn digits<'a>(word: &'a [u8], pool: &mut Vec<u8>) -> Option<&'a [u8]> {
     let start = pool.len();
     let most = (word.len() / 2).min(pool.capacity() - start);

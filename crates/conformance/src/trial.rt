@@ -79,8 +79,8 @@ impl<'a> Trial<'a> {
         last + 1
     }
 
-    // The lines of an input, in no more than so many reads: no contract says that it ends. They are tried when the text is full or the input
-    // has ended. The last line may lack its newline.
+    // The lines of an input, in no more than so many reads: no contract says that it ends. They are tried when the text is full or the
+    // input has ended. The last line may lack its newline.
     fn try_input<R: Read>(&mut self, input: &mut R, text: &mut [u8]) {
         let mut held = 0;
         for _ in 0..u64::MAX {
