@@ -11,14 +11,14 @@ fn fill_by<T: Copy, F: Fn(usize) -> T>(lent: &mut [T], pattern: F)
     }
 }
 
-// Whether every item from `from` on is as it was filled, which `is_kept` says of one and its place. Not `skip(from)`: a loop over that has
-// no place for its invariant to name.
+// Whether every item from `from` on is as it was filled, which `is_kept` says of one and its place. By places, and not `skip(from)`: a loop
+// over that has no place for its invariant to name.
 fn kept_by<T: Copy, F: Fn(usize, T) -> bool>(lent: &[T], from: usize, is_kept: F) -> bool
     requires { F.IsAlwaysCallable is_kept }
     ensures { result ≡ true → (k : ℕ) (d : T) → k < length lent.now → from ≤ k → F.post is_kept k (slice_index_or lent.now k d) true }
 {
-    for (i, item) in lent.iter().enumerate() {
-        if from <= i && !is_kept(i, *item) {
+    for i in from..lent.len() {
+        if !is_kept(i, lent[i]) {
             return false;
         }
     }

@@ -44,44 +44,52 @@ pub fn number(word: &[u8]) -> Option<u64> {
 }
 
 // The octet that two digits are.
-fn octet(high: u8, low: u8) -> Option<u8> {
-    Some(digit(high)? * 16 + digit(low)?)
+fn octet_of(pair: &[u8]) -> Option<u8> {
+    let [high, low] = pair else {
+        return None;
+    };
+    Some(digit(*high)? * 16 + digit(*low)?)
 }
 
-// The octets of pairs of digits.
-fn digits(word: &[u8], pool: &mut Vec<u8>) -> Option<()> {
-    for pair in word.chunks(2) {
-        let [high, low] = pair else {
-            return None;
-        };
-        push(pool, octet(*high, *low)?)?;
+// The octets of the pairs of digits with which a word begins, while there is room for them: what stands behind those. Room is made first; a
+// push of each takes longer.
+fn digits<'a>(word: &'a [u8], pool: &mut Vec<u8>) -> Option<&'a [u8]> {
+    let start = pool.len();
+    let most = (word.len() / 2).min(pool.capacity() - start);
+    pool.resize(start + most, 0).ok()?;
+    let mut count = 0usize;
+    for (b, pair) in pool[start..].iter_mut().zip(word.chunks_exact(2)) {
+        match octet_of(pair) {
+            None => break,
+            Some(octet) => *b = octet,
+        }
+        count = count.saturating_add(1);
     }
-    Some(())
+    pool.truncate(start.saturating_add(count));
+    word.get(count.saturating_mul(2)..)
 }
 
-// The last octet that the pool holds so many times, counting the one that is there.
+// The last octet that the pool holds so many times, counting the one that is there. The room behind that one must be for so many: an octet
+// of the pool stays free.
 fn repeat(pool: &mut Vec<u8>, times: u64) -> Option<()> {
-    if times == 0 {
+    let b = pool.last().copied()?;
+    let room = pool.capacity() - pool.len();
+    if times == 0 || (room as u64) < times {
         return None;
     }
-    let b = pool.last().copied()?;
-    for _ in 1..times {
-        push(pool, b)?;
-    }
-    Some(())
+    let behind = times as usize - 1;
+    pool.resize(pool.len() + behind, b).ok()
 }
 
 // One or more octets.
 fn some_octets(word: &[u8], pool: &mut Vec<u8>) -> Option<()> {
-    let star = word.iter().position(|b| *b == b'*');
-    let pairs = &word[..star.unwrap_or(word.len())];
-    if pairs.is_empty() {
-        return None;
-    }
-    digits(pairs, pool)?;
-    match star {
-        None => Some(()),
-        Some(star) => repeat(pool, number(&word[star + 1..])?),
+    let start = pool.len();
+    let others = digits(word, pool)?;
+    match others {
+        _ if pool.len() == start => None,
+        [] => Some(()),
+        [b'*', times @ ..] => repeat(pool, number(times)?),
+        _ => None,
     }
 }
 
@@ -115,30 +123,27 @@ impl Front {
     }
 }
 
-// OP [+N] [@N] FIELD..
-pub fn front_of(text: &[u8], pool: &mut Vec<u8>, fields: &mut Vec<Span>) -> Option<Front> {
+// OP [+N] [@N] FIELD.., and the records behind a `/`, if there are any.
+pub fn front_of<'a>(
+    text: &'a [u8],
+    pool: &mut Vec<u8>,
+    fields: &mut Vec<Span>,
+) -> Option<(Front, Option<&'a [u8]>)> {
     let mut words = text.split(|b| *b == b' ');
-    let operation = operation::of(words.next()?)?;
+    let name = words.next()?;
     let mut front = Front {
-        operation,
+        operation: operation::of(name)?,
         at: None,
         limit: None,
     };
+    // Where the next word begins.
+    let mut next = name.len().saturating_add(1);
     for word in words {
-        front.take(word, pool, fields)?;
+        next = next.saturating_add(word.len()).saturating_add(1);
+        match word {
+            b"/" => return Some((front, text.get(next..))),
+            _ => front.take(word, pool, fields)?,
+        }
     }
-    Some(front)
-}
-
-// What stands before a `/`, and the records behind it, if there are any.
-pub fn split_at_slash(text: &[u8]) -> Option<(&[u8], Option<&[u8]>)> {
-    let Some(slash) = text.iter().position(|b| *b == b'/') else {
-        return Some((text, None));
-    };
-    let front = text[..slash].strip_suffix(b" ")?;
-    match &text[slash + 1..] {
-        [] => Some((front, None)),
-        [b' ', records @ ..] => Some((front, Some(records))),
-        _ => None,
-    }
+    Some((front, None))
 }

@@ -14,7 +14,6 @@ const REGISTER_WORDS: usize = 75_002;
 #[derive(Drop)]
 pub(crate) struct Memory {
     pub(crate) parts: Parts,
-    pub(crate) tape: Vec<u64>,
     pub(crate) lent: Vec<u8>,
     pub(crate) register: Vec<u64>,
 }
@@ -23,7 +22,6 @@ impl Memory {
     pub(crate) fn new(alloc: Global) -> Result<Memory, AllocError> {
         Ok(Memory {
             parts: Parts::new(alloc, OCTETS, TAPE_WORDS)?,
-            tape: vec![in alloc; 0u64; TAPE_WORDS]?,
             lent: vec![in alloc; 0u8; OCTETS]?,
             register: vec![in alloc; 0u64; REGISTER_WORDS]?,
         })

@@ -1,11 +1,17 @@
 // Lines of cases. One that is empty or begins with `#` is passed over. A case alone is answered. Where a tab and an answer stand behind a
 // case, its own answer is compared with that: nothing is printed of a right one, and both of a wrong one; a second tab and a comment
 // may follow.
+ghost use Rattle.std.specs.Prelude.{◌≤◌, length};
+
 use crate::answers::answer;
 use crate::memory::Memory;
+use crate::text::{move_to_front, read_full};
 use print::Printer;
-use std::io::{BufRead, BufReader, Read};
-use std::{fs, io};
+use std::fs;
+use std::io::Read;
+
+// What stands before an answer that is compared.
+const WRONG: [u8; 7] = *b"wrong: ";
 
 // The cases that had an answer, and how many of them were wrong.
 #[derive(Drop)]
@@ -28,13 +34,14 @@ impl<'a> Trial<'a> {
         }
     }
 
-    // The answer to a case beside what stands behind the tab of its line.
+    // The answer to a case beside what stands behind the tab of its line. Of one that the output has no room for, what is compared is what
+    // its end has behind so many octets.
     fn judge(&mut self, line: &[u8], case: &[u8], told: &[u8]) {
         self.cases = self.cases.wrapping_add(1);
         self.printer.flush();
-        self.printer.text(b"wrong: ");
+        self.printer.text(&WRONG);
         answer(&mut self.printer, case, &mut self.memory);
-        if self.printer.pending().strip_prefix(b"wrong: ") == Some(told) {
+        if self.printer.pending().get(WRONG.len()..).unwrap_or(&[]) == told {
             return self.printer.discard();
         }
         self.wrong = self.wrong.wrapping_add(1);
@@ -59,39 +66,56 @@ impl<'a> Trial<'a> {
         }
     }
 
-    // The lines of an input, no more than a number says: no contract says that it ends. The last line may lack its newline.
-    fn try_input<R: Read + Drop>(&mut self, input: R) -> io::Result<()> {
-        let mut reader = BufReader::new(self.rt.alloc(), input)?;
-        let mut line = Vec::new(self.rt.alloc());
+    // The lines that have ended: how many octets they are.
+    fn try_ended(&mut self, text: &[u8]) -> usize
+        ensures { result ≤ length text.now }
+    {
+        let Some(last) = text.iter().rposition(|b| *b == b'\n') else {
+            return 0;
+        };
+        for line in text[..last].split(|b| *b == b'\n') {
+            self.try_line(line);
+        }
+        last + 1
+    }
+
+    // The lines of an input, in no more than so many reads: no contract says that it ends. They are tried when the text is full or the
+    // input has ended. The last line may lack its newline.
+    fn try_input<R: Read>(&mut self, input: &mut R, text: &mut [u8]) {
+        let mut held = 0;
         for _ in 0..u64::MAX {
-            line.clear();
-            if reader.read_until(b'\n', &mut line)? == 0 {
-                break;
+            let end = held + read_full(input, &mut text[held..]);
+            let tried = self.try_ended(&text[..end]);
+            if end < text.len() {
+                return self.try_line(&text[tried..end]);
             }
-            let text = line.as_slice();
-            self.try_line(text.strip_suffix(b"\n").unwrap_or(text));
-        }
-        Ok(())
-    }
-
-    // What could not be read is told on standard error.
-    fn told(&mut self, name: &str, tried: io::Result<()>) {
-        if let Err(e) = tried {
-            let _ = eprintln!(self.rt; "{name}: {e}");
+            held = move_to_front(text, tried);
         }
     }
 
-    pub(crate) fn try_stdin(&mut self) {
+    // The lines of the file of this name. One that cannot be opened has none.
+    fn try_file(&mut self, path: &str, text: &mut [u8]) {
+        match fs::open(&self.rt, path) {
+            Ok(mut file) => self.try_input(&mut file, text),
+            Err(e) => {
+                let _ = eprintln!(self.rt; "{path}: {e}");
+            }
+        }
+    }
+
+    // The lines of the file that an argument names; those of standard input where it is empty.
+    pub(crate) fn try_argument(&mut self, name: &[u8], text: &mut [u8]) {
         // Not `self.rt.stdin()` in the call: the borrow checker does not cover it where `self` is lent to that call.
         let rt = self.rt;
-        let tried = self.try_input(rt.stdin());
-        self.told("standard input", tried);
-    }
-
-    pub(crate) fn try_file(&mut self, path: &str) {
-        let rt = self.rt;
-        let tried = fs::open(&rt, path).and_then(|file| self.try_input(file));
-        self.told(path, tried);
+        if name.is_empty() {
+            return self.try_input(&mut rt.stdin(), text);
+        }
+        match str::from_utf8(name) {
+            Ok(path) => self.try_file(path, text),
+            Err(_) => {
+                let _ = eprintln!(rt; "the name of a file is no UTF-8");
+            }
+        }
     }
 
     pub(crate) fn end(&mut self) {

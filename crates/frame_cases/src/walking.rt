@@ -26,8 +26,8 @@ fn records_told(register: &[u64], frames: usize) -> Option<usize> {
     let Some(last) = frames.checked_sub(1) else {
         return Some(0);
     };
-    match register.chunks_exact(ENTRY_WORDS).nth(last)? {
-        [_, before, own] => Some(before.checked_add(*own)? as usize),
+    match register.get(last.checked_mul(ENTRY_WORDS)?..)? {
+        [_, before, own, ..] => Some(before.checked_add(*own)? as usize),
         _ => None,
     }
 }

@@ -2,6 +2,7 @@
 use crate::parts::Parts;
 use crate::record::Records;
 use cases::line;
+use cases::line::Front;
 use cases::operation::{OctetWriter, Operation};
 use types::Span;
 
@@ -77,21 +78,50 @@ impl<'a> Case<'a> {
     }
 }
 
-// What a line says, taken into its parts. None for a line that is no case.
-pub fn case_of<'a>(text: &[u8], parts: &'a mut Parts) -> Option<Case<'a>> {
-    parts.clear();
-    let (front, records) = line::split_at_slash(text)?;
-    let front = line::front_of(front, &mut parts.pool, &mut parts.fields)?;
-    if let Some(records) = records {
-        parts.take_records(records)?;
-    }
-    let case = Case {
+fn case_from<'a>(front: Front, fields: &'a [Span], pool: &'a [u8], records: &'a [u64]) -> Case<'a> {
+    Case {
         operation: front.operation,
         at: front.at.unwrap_or(0),
         limit: front.limit,
-        fields: parts.fields.as_slice(),
-        pool: parts.pool.as_slice(),
-        records: parts.records.as_slice(),
-    };
-    case.is_whole().then_some(case)
+        fields,
+        pool,
+        records,
+    }
+}
+
+impl Parts {
+    // The case of which these are the parts.
+    pub fn case(&self, front: Front) -> Case<'_> {
+        case_from(
+            front,
+            self.fields.as_slice(),
+            self.pool.as_slice(),
+            self.records.as_slice(),
+        )
+    }
+
+    // A case without records, and a tape of so many words. None where there is no room for them.
+    pub fn case_with_tape(&mut self, front: Front, words: usize) -> Option<(Case<'_>, &mut [u64])> {
+        if self.records.capacity() < words {
+            return None;
+        }
+        self.records.resize(words, 0).ok()?;
+        let Parts {
+            pool,
+            fields,
+            records,
+        } = self;
+        let case = case_from(front, fields.as_slice(), pool.as_slice(), &[]);
+        Some((case, records.as_mut_slice()))
+    }
+}
+
+// What a line says, taken into its parts. None for a line that is no case.
+pub fn case_of(text: &[u8], parts: &mut Parts) -> Option<Front> {
+    parts.clear();
+    let (front, records) = line::front_of(text, &mut parts.pool, &mut parts.fields)?;
+    if let Some(records) = records {
+        parts.take_records(records)?;
+    }
+    parts.case(front).is_whole().then_some(front)
 }

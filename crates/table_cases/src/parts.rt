@@ -6,7 +6,7 @@ use types::Span;
 const MOST_FIELDS: usize = 20;
 
 // The octets of fields and strings, where the fields stand among them, and the words of the records. All are made once, and a line that
-// has more of them than there is room for is no case.
+// has more of them than there is room for is no case. A case that reads has no records, and is lent their room as a tape.
 #[derive(Drop)]
 pub struct Parts {
     pub pool: Vec<u8>,

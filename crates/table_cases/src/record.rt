@@ -60,7 +60,8 @@ pub fn and_words(printer: &mut Printer, record: &[u64])
 
 // Record number k by its words.
 fn words(printer: &mut Printer, tape: &[u64], k: usize) {
-    match tape.chunks_exact(RECORD_WORDS).nth(k) {
+    let start = k.saturating_mul(RECORD_WORDS);
+    match tape.get(start..start.saturating_add(RECORD_WORDS)) {
         None => printer.text(b" ?"),
         Some(record) => and_words(printer, record),
     }

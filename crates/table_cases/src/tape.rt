@@ -66,39 +66,47 @@ impl Parts {
         Some(())
     }
 
-    // The words of the last record once more; 0 in place of those that there are not.
-    fn repeat_once(&mut self) -> Option<()> {
-        for _ in 0..RECORD_WORDS {
-            let place = self.records.len().checked_sub(RECORD_WORDS);
-            let word = place.and_then(|i| self.records.get(i).copied());
-            self.push_word(word.unwrap_or(0))?;
+    // The words of the last record; 0 in place of those that there are not.
+    fn last_record(&self) -> [u64; RECORD_WORDS] {
+        let mut last = [0; RECORD_WORDS];
+        for (word, known) in last.iter_mut().rev().zip(self.records.iter().rev()) {
+            *word = *known;
         }
-        Some(())
+        last
     }
 
-    // The last record so many times more.
+    // The last record so many times more, if there is room for all of them.
     fn repeat(&mut self, times: u64) -> Option<()> {
-        if self.records.is_empty() {
+        let room = self.records.capacity() - self.records.len();
+        if self.records.is_empty() || ((room / RECORD_WORDS) as u64) < times {
             return None;
         }
+        let last = self.last_record();
         for _ in 0..times {
-            self.repeat_once()?;
+            self.records.extend_from_slice(&last).ok()?;
         }
         Some(())
     }
 
+    // No record has the letter `*`.
     fn one(&mut self, word: &[u8]) -> Option<()> {
         match word {
+            [b'*', ..] => None,
             [b'#', words @ ..] => self.plain(words),
             [letter, b':', others @ ..] => self.record_of(*letter, others),
             _ => None,
         }
     }
 
-    // The records up to the line's end.
+    // The records up to the line's end. Where a word begins stands its letter, be it a space.
     pub(crate) fn take_records(&mut self, text: &[u8]) -> Option<()> {
         let (records, times) = split_at_times(text);
-        for word in records.split(|b| *b == b' ') {
+        let mut begins = true;
+        let words = records.split(|b| {
+            begins = !begins && *b == b' ';
+            begins
+        });
+        for word in words {
             self.one(word)?;
         }
         match times {
