@@ -106,29 +106,12 @@ pub fn of_written(w: Written) -> Told {
     told(w?, NOTHING)
 }
 
-static DIGITS: [u8; 16] = *b"0123456789abcdef";
-
-// Without leading zeros. Not by `{n:x}`: records shown by their words took twice as long with it.
-fn hex(printer: &mut Printer, n: u64)
-    ensures { FitsBuffer printer.new }
-{
-    let mut digits = [0u8; 16];
-    let mut rest = n;
-    for i in (0..digits.len()).rev() {
-        digits[i] = DIGITS[(rest % 16) as usize];
-        rest /= 16;
-        if rest == 0 {
-            return printer.text(&digits[i..]);
-        }
-    }
-}
-
 // A number behind `separator`.
 pub fn and_number(printer: &mut Printer, separator: u8, n: u64)
     ensures { FitsBuffer printer.new }
 {
     printer.put(separator);
-    hex(printer, n);
+    printer.hex(n);
 }
 
 // Numbers joined by `:`, behind `separator`.
