@@ -24,7 +24,7 @@ fn with_tape(
 
 fn read_onto(printer: &mut Printer, reader: TapeReader, front: Front, parts: &mut Parts) {
     let octets = parts.case(front).field(0).len();
-    let words = lending::lent_words(front.limit, octets, parts.records.capacity());
+    let words = lending::lent_words(front.limit, octets, parts.tape.len());
     let Some((case, tape)) = with_tape(front, parts, words) else {
         return printer.put(b'?');
     };
@@ -42,7 +42,7 @@ fn walk(printer: &mut Printer, front: Front, parts: &mut Parts, register: &mut [
         return printer.put(b'?');
     };
     let entries = u16::from_be_bytes([*high, *low]) as usize;
-    let tape_words = lending::words_for(records, parts.records.capacity());
+    let tape_words = lending::words_for(records, parts.tape.len());
     let register_words = walking::register_words(entries, register.len());
     let (Some((case, tape)), Some(of_register)) = (
         with_tape(front, parts, tape_words),
@@ -68,7 +68,7 @@ fn space_for(case: Case, most: usize) -> usize {
 // A frame takes no more records than it has octets.
 fn relayed(front: Front, parts: &mut Parts, lent: &mut [u8]) -> Told {
     let octets = parts.case(front).field(0).len();
-    let words = lending::lent_words(None, octets, parts.records.capacity());
+    let words = lending::lent_words(None, octets, parts.tape.len());
     let (case, tape) = with_tape(front, parts, words).ok_or(NoAnswer::NoCase)?;
     coding::relayed(case.field(0), case.at, tape, lent)
 }

@@ -96,23 +96,24 @@ impl Parts {
             front,
             self.fields.as_slice(),
             self.pool.as_slice(),
-            self.records.as_slice(),
+            self.records(),
         )
     }
 
     // A case without records, and a tape of so many words. None where there is no room for them.
     pub fn case_with_tape(&mut self, front: Front, words: usize) -> Option<(Case<'_>, &mut [u64])> {
-        if self.records.capacity() < words {
-            return None;
-        }
-        self.records.resize(words, 0).ok()?;
         let Parts {
             pool,
             fields,
-            records,
+            tape,
+            words: _,
         } = self;
+        let all = tape.as_mut_slice();
+        if all.len() < words {
+            return None;
+        }
         let case = case_from(front, fields.as_slice(), pool.as_slice(), &[]);
-        Some((case, records.as_mut_slice()))
+        Some((case, &mut all[..words]))
     }
 }
 

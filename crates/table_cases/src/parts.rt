@@ -5,13 +5,15 @@ use types::Span;
 // The most fields of a case. A frame of a content header with all properties has 17.
 const MOST_FIELDS: usize = 20;
 
-// The octets of fields and strings, where the fields stand among them, and the words of the records. All are made once, and a line that
-// has more of them than there is room for is no case. A case that reads has no records, and is lent their room as a tape.
+// The octets of fields and strings, where the fields stand among them, and a tape, of which so many words are the records. All are made
+// once, and a line that has more of them than there is room for is no case. A case that reads has no records, and is lent the tape: it is
+// as long as it was made, since to make it longer for each case would fill it each time.
 #[derive(Drop)]
 pub struct Parts {
     pub pool: Vec<u8>,
     pub fields: Vec<Span>,
-    pub records: Vec<u64>,
+    pub tape: Vec<u64>,
+    pub words: usize,
 }
 
 impl Parts {
@@ -19,13 +21,18 @@ impl Parts {
         Ok(Parts {
             pool: Vec::with_capacity(alloc, octets)?,
             fields: Vec::with_capacity(alloc, MOST_FIELDS)?,
-            records: Vec::with_capacity(alloc, words)?,
+            tape: vec![in alloc; 0u64; words]?,
+            words: 0,
         })
     }
 
     pub fn clear(&mut self) {
         self.pool.clear();
         self.fields.clear();
-        self.records.clear();
+        self.words = 0;
+    }
+
+    pub fn records(&self) -> &[u64] {
+        self.tape.get(..self.words).unwrap_or(&[])
     }
 }

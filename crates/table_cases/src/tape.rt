@@ -8,7 +8,9 @@ use tables::tape::RECORD_WORDS;
 
 impl Parts {
     fn push_word(&mut self, word: u64) -> Option<()> {
-        line::push(&mut self.records, word)
+        *self.tape.get_mut(self.words)? = word;
+        self.words = self.words.saturating_add(1);
+        Some(())
     }
 
     fn push_two(&mut self, first: u64, second: u64) -> Option<()> {
@@ -69,21 +71,28 @@ impl Parts {
     // The words of the last record; 0 in place of those that there are not.
     fn last_record(&self) -> [u64; RECORD_WORDS] {
         let mut last = [0; RECORD_WORDS];
-        for (word, known) in last.iter_mut().rev().zip(self.records.iter().rev()) {
+        for (word, known) in last.iter_mut().rev().zip(self.records().iter().rev()) {
             *word = *known;
         }
         last
     }
 
+    fn push_record(&mut self, record: [u64; RECORD_WORDS]) -> Option<()> {
+        for word in record {
+            self.push_word(word)?;
+        }
+        Some(())
+    }
+
     // The last record so many times more, if there is room for all of them.
     fn repeat(&mut self, times: u64) -> Option<()> {
-        let room = self.records.capacity() - self.records.len();
-        if self.records.is_empty() || ((room / RECORD_WORDS) as u64) < times {
+        let room = self.tape.len().saturating_sub(self.words);
+        if self.words == 0 || ((room / RECORD_WORDS) as u64) < times {
             return None;
         }
         let last = self.last_record();
         for _ in 0..times {
-            self.records.extend_from_slice(&last).ok()?;
+            self.push_record(last)?;
         }
         Some(())
     }
