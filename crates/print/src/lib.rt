@@ -108,7 +108,9 @@ impl<'a> Printer<'a> {
         for b in s {
             let high = DIGITS[(*b / 16) as usize];
             let low = DIGITS[(*b % 16) as usize];
-            self.text(&[high, low]);
+            // Both as one number: a copy of two octets waits where they were stored one by one.
+            let digits = u16::from_le_bytes([high, low]);
+            self.text(&digits.to_le_bytes());
         }
     }
 
