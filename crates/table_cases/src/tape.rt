@@ -78,9 +78,9 @@ impl Parts {
     }
 
     fn push_record(&mut self, record: [u64; RECORD_WORDS]) -> Option<()> {
-        for word in record {
-            self.push_word(word)?;
-        }
+        let rest = self.tape.as_mut_slice().get_mut(self.words..)?;
+        *rest.first_chunk_mut()? = record;
+        self.words = self.words.saturating_add(RECORD_WORDS);
         Some(())
     }
 
