@@ -147,3 +147,43 @@ pub fn front_of<'a>(
     }
     Some((front, None))
 }
+
+// What stands before a `/`, and the records behind it, if there are any; neither is judged. `front_of` takes both in its one pass.
+pub fn split_at_slash(text: &[u8]) -> Option<(&[u8], Option<&[u8]>)> {
+    let Some(slash) = text.iter().position(|b| *b == b'/') else {
+        return Some((text, None));
+    };
+    let front = text[..slash].strip_suffix(b" ")?;
+    match &text[slash + 1..] {
+        [] => Some((front, None)),
+        [b' ', records @ ..] => Some((front, Some(records))),
+        _ => None,
+    }
+}
+
+#[cfg(test)]
+mod tests {
+    use super::*;
+
+    #[test]
+    fn splits_at_the_first_slash(rt: HostRuntime) {
+        let alone: [&[u8]; 3] = [b"walk 00", b"", b" "];
+        for text in alone {
+            assert!(rt; split_at_slash(text) == Some((text, None)));
+        }
+        let with_records: [(&[u8], &[u8], &[u8]); 4] = [
+            (b"walk 00 / t:61:1:0", b"walk 00", b"t:61:1:0"),
+            (b"walk / a / b", b"walk", b"a / b"),
+            (b"walk / ", b"walk", b""),
+            (b" / a", b"", b"a"),
+        ];
+        for (text, front, records) in with_records {
+            assert!(rt; split_at_slash(text) == Some((front, Some(records))));
+        }
+        assert!(rt; split_at_slash(b"walk /") == Some((b"walk", None)));
+        let malformed: [&[u8]; 4] = [b"walk/ a", b"walk /a", b"/ a", b"/"];
+        for text in malformed {
+            assert!(rt; split_at_slash(text).is_none());
+        }
+    }
+}
